@@ -428,6 +428,13 @@ uint32_t ignore_builder_set_types(ignore_builder *builder);
 uint32_t ignore_builder_add_ignore(ignore_builder *builder, ignore_tree *tree, const uint8_t *path,
                                    size_t path_length);
 
+/* Adds a file of rules by its path alone, after the others that were added so. It is for guides, which
+   want it with their first root, and add it after those of ignore_builder_add_ignore; it is relative
+   to the same directory. Matchers and walks, which have a tree, don't read it. IGNORE_OK,
+   IGNORE_NOT_UTF8, IGNORE_NO_MEMORY or IGNORE_MISUSED. */
+uint32_t ignore_builder_add_ignore_path(ignore_builder *builder, const uint8_t *path,
+                                        size_t path_length);
+
 /* What is wrong with what the builder was told last of globs, types and files: as
    ignore_rules_problem. */
 uint32_t ignore_builder_problem(ignore_builder *builder, uint8_t *room, size_t room_length,
@@ -488,7 +495,7 @@ enum {
 
 /* In which list a rule stands. They are asked in this order, and the first that has a match decides:
    custom names, `.ignore`, `.gitignore`, `info/exclude` of a repository, git's global file, files of
-   ignore_builder_add_ignore. */
+   ignore_builder_add_ignore and of ignore_builder_add_ignore_path. */
 enum {
     IGNORE_RANK_CUSTOM = 1,
     IGNORE_RANK_IGNORE = 2,
@@ -627,12 +634,10 @@ enum {
    IGNORE_OK, IGNORE_NO_MEMORY or IGNORE_MISUSED. */
 uint32_t ignore_guide_new(ignore_builder *builder, ignore_guide *guide);
 
-/* Adds a file of rules, as ignore_builder_add_ignore does, after the others. It is wanted with the
-   first root. IGNORE_OK, IGNORE_NOT_UTF8, IGNORE_NO_MEMORY, or IGNORE_MISUSED once a root was begun. */
-uint32_t ignore_guide_add_ignore(ignore_guide *guide, const uint8_t *path, size_t path_length);
-
-/* Begins a root, by its path; a guide may have several. Git's global file and the files of
-   ignore_guide_add_ignore are read with the first one, what counts above a root and in it with each.
+/* Begins a root, by its path; a guide may have several. The files of ignore_builder_add_ignore_path
+   are wanted with the first one, before all else and in their order; then what leads to git's global
+   file, and that. Where no directory was told that they are relative to, none of these is wanted, and
+   each of the former is a problem. What counts above a root and in it is wanted with each root.
    IGNORE_OK, and the place of the root; IGNORE_WANTS where something is to be known first. Also
    IGNORE_NOT_UTF8, IGNORE_NO_MEMORY, and IGNORE_MISUSED while a call waits. With another answer than
    IGNORE_OK the place is all zeros. */
@@ -684,13 +689,13 @@ uint32_t ignore_guide_decide_all(ignore_guide *guide, const ignore_place *place,
                                  size_t n, const uint64_t *sizes, size_t sizes_length,
                                  uint8_t *codes, size_t codes_length);
 
-/* Which rule decides on an entry of the directory at a place, whatever its depth and its size are:
-   IGNORE_NONE, IGNORE_IGNORE or IGNORE_WHITELIST, with `why` and `room` as for
-   ignore_matcher_explained. It changes nothing. Also as ignore_guide_decide, and then `why` is all
-   zeros, and the room is as before. */
+/* The same as ignore_guide_decide, with the reason: `why` and `room` as for ignore_matcher_explained.
+   What is beyond the limits on depth, and what is larger than the limit, has that as its reason.
+   `is_inside` is false: that the directory is ignored, or one around it, isn't asked. Also as
+   ignore_guide_decide, and then `why` is all zeros, and the room is as before. */
 uint32_t ignore_guide_why(ignore_guide *guide, const ignore_place *place, const uint8_t *name,
-                          size_t name_length, bool is_dir, ignore_why *why, uint8_t *room,
-                          size_t room_length);
+                          size_t name_length, bool is_dir, uint64_t size, ignore_found *found,
+                          ignore_why *why, uint8_t *room, size_t room_length);
 
 /* Leaves the directory at a place, which is none from then on. Each is left once, those below it
    first. IGNORE_OK; or IGNORE_MISUSED where the place is none, where a directory below it wasn't left,
@@ -718,9 +723,9 @@ typedef struct ignore_problem {
 } ignore_problem;
 
 /* The part at an index, from 0, of what is wrong with the files of rules of the directory that was
-   entered last, or of the root that was begun, with those above it and, with the first root, of
-   ignore_guide_add_ignore: IGNORE_OK, the part, and in `room` the first bytes, as many as there is
-   room for, of its path, its glob and its text, one after the other. IGNORE_NONE where there are no
+   entered last, or of the root that was begun, with those above it and, with the first root, those of
+   ignore_builder_add_ignore_path: IGNORE_OK, the part, and in `room` the first bytes, as many as there
+   is room for, of its path, its glob and its text, one after the other. IGNORE_NONE where there are no
    more parts than that. Also IGNORE_NO_MEMORY and IGNORE_MISUSED. With another answer than IGNORE_OK
    the part is all zeros, and the room is as before. */
 uint32_t ignore_guide_problem(ignore_guide *guide, size_t index, ignore_problem *problem,

@@ -59,9 +59,10 @@ static void switch_all(ignore_builder *builder) {
 
 static void label_all(ignore_builder *builder) {
     uint32_t (*const calls[])(ignore_builder *, const uint8_t *, size_t) = {
-        ignore_builder_add_custom_ignore_filename, ignore_builder_current_dir,
-        ignore_builder_env_current_dir, ignore_builder_env_home, ignore_builder_env_xdg_config_home,
-        ignore_builder_env_git_config_global, ignore_builder_env_git_config_system,
+        ignore_builder_add_custom_ignore_filename, ignore_builder_add_ignore_path,
+        ignore_builder_current_dir, ignore_builder_env_current_dir, ignore_builder_env_home,
+        ignore_builder_env_xdg_config_home, ignore_builder_env_git_config_global,
+        ignore_builder_env_git_config_system,
     };
     for (size_t i = 0; i < sizeof calls / sizeof *calls; i++) {
         CALL(IGNORE_NOT_UTF8, calls[i](builder, NOT_UTF8));

@@ -78,6 +78,9 @@ static void make(ignore_guide *guide) {
     CALL(IGNORE_OK, ignore_builder_env_home(&builder, TEXT("/home")));
     CALL(IGNORE_OK, ignore_builder_max_filesize(&builder, true, 100));
     CALL(IGNORE_OK, ignore_builder_max_depth(&builder, true, 2));
+    CALL(IGNORE_NOT_UTF8, ignore_builder_add_ignore_path(&builder, BYTES("\xff")));
+    CALL(IGNORE_OK, ignore_builder_add_ignore_path(&builder, TEXT("/w/extra")));
+    CALL(IGNORE_OK, ignore_builder_add_ignore_path(&builder, TEXT("/w/gone")));
     CALL(IGNORE_OK, ignore_guide_new(&builder, guide));
     ignore_builder_free(builder);
     ignore_builder in_guide = {guide->at};
@@ -105,14 +108,12 @@ static void before(ignore_guide *guide) {
                                                  IGNORE_NO_SIZES, &number, 1));
     HOLDS(number == 9);
     CALL(IGNORE_NONE, ignore_guide_problem(guide, 0, &problem, room, sizeof room));
-    CALL(IGNORE_NOT_UTF8, ignore_guide_add_ignore(guide, BYTES("\xff")));
-    CALL(IGNORE_OK, ignore_guide_add_ignore(guide, TEXT("/w/extra")));
-    CALL(IGNORE_OK, ignore_guide_add_ignore(guide, TEXT("/w/gone")));
     CALL(IGNORE_NOT_UTF8, ignore_guide_root(guide, BYTES("\xff"), &place));
 }
 
-/* While a call waits, others but questions are refused, and so is what is none. */
-static void waits(ignore_guide *guide, bool is_first) {
+/* While a call waits for a path, others but questions are refused, and so is what is none. The files
+   of the builder are wanted before all else, in their order. */
+static void waits(ignore_guide *guide, const char *wanted_path) {
     ignore_place place;
     uint8_t path[64];
     uint32_t wanted, again;
@@ -120,12 +121,12 @@ static void waits(ignore_guide *guide, bool is_first) {
     CALL(IGNORE_OK, ignore_guide_wanted(guide, &wanted, path, sizeof path, &whole));
     HOLDS(whole > 0 && wanted > 0);
     CALL(IGNORE_MISUSED, ignore_guide_root(guide, TEXT("/u"), &place));
-    CALL(IGNORE_MISUSED, ignore_guide_add_ignore(guide, TEXT("/w/more")));
     CALL(IGNORE_MISUSED, ignore_guide_give(guide, 3, TEXT(""), IGNORE_NO_FAULT, &place));
     CALL(IGNORE_MISUSED, ignore_guide_give(guide, 5, TEXT(""), IGNORE_NO_FAULT, &place));
     CALL(IGNORE_MISUSED, ignore_guide_give(guide, 1, TEXT(""), IGNORE_FAULT_OTHER + 1, &place));
     CALL(IGNORE_OK, ignore_guide_wanted(guide, &again, path, 1, &length));
-    HOLDS(again == wanted && length == whole && is_first == (length == strlen("/w/gone")));
+    HOLDS(again == wanted && length == whole);
+    same(wanted_path, path, whole);
 }
 
 static void expect(ignore_guide *guide, size_t index, uint32_t kind, uint64_t line,
@@ -212,17 +213,49 @@ static void refuse(ignore_guide *guide, const ignore_place *root) {
          ignore_guide_decide_all(guide, root, TEXT(""), kinds, 0, IGNORE_NO_SIZES, codes, 0));
 }
 
-static void reason(ignore_guide *guide, const ignore_place *root) {
+/* The reason for an entry, with the answer that ignore_guide_decide gives. */
+static ignore_why explain(ignore_guide *guide, const ignore_place *place, const char *name,
+                          uint64_t size, uint8_t *room) {
+    ignore_found found, alone;
     ignore_why why;
+    uint32_t code, decided;
+    do
+        decided = ignore_guide_decide(guide, place, TEXT(name), false, size, &alone);
+    while (decided == IGNORE_NO_MEMORY && failing);
+    do
+        code = ignore_guide_why(guide, place, TEXT(name), false, size, &found, &why, room, 256);
+    while (code == IGNORE_NO_MEMORY && failing);
+    HOLDS(code == decided && found.should_descend == alone.should_descend);
+    HOLDS(found.is_within_depth == alone.is_within_depth && !why.is_inside);
+    return why;
+}
+
+static void reason(ignore_guide *guide, const ignore_place *root) {
+    const uint64_t any = IGNORE_NO_SIZE;
+    ignore_found found = {true, true};
     uint8_t room[256];
-    CALL(IGNORE_WHITELIST,
-         ignore_guide_why(guide, root, TEXT("keep.o"), false, &why, room, sizeof room));
+    ignore_why why = explain(guide, root, "keep.o", any, room);
     HOLDS(why.kind == IGNORE_WHY_RULE && why.rank == IGNORE_RANK_GITIGNORE && why.line == 2);
     same("/t//t/.gitignore!keep.o", room, why.directory + why.source + why.pattern);
-    CALL(IGNORE_NONE, ignore_guide_why(guide, root, TEXT("a.c"), false, &why, room, sizeof room));
-    HOLDS(why.kind == IGNORE_WHY_NO_RULE);
-    CALL(IGNORE_MISUSED, ignore_guide_why(guide, root, TEXT(""), false, &why, room, sizeof room));
-    HOLDS(why.kind == 0);
+    HOLDS(explain(guide, root, "a.c", any, room).kind == IGNORE_WHY_NO_RULE);
+    HOLDS(explain(guide, root, "a.c", 100, room).kind == IGNORE_WHY_NO_RULE);
+    HOLDS(explain(guide, root, "a.o", 101, room).kind == IGNORE_WHY_RULE);
+    why = explain(guide, root, "a.c", 101, room);
+    HOLDS(why.kind == IGNORE_WHY_LARGER && why.size == 101 && why.limit == 100);
+    CALL(IGNORE_MISUSED, ignore_guide_why(guide, root, TEXT(""), false, any, &found, &why, room,
+                                          sizeof room));
+    HOLDS(why.kind == 0 && !found.should_descend && !found.is_within_depth);
+}
+
+/* Below the greatest depth that depth is the reason, whatever the rules and the size are. */
+static void too_deep(ignore_guide *guide, const ignore_place *place) {
+    static const char names[] = "a.o";
+    folder more = {place, "more", names, sizeof names};
+    ignore_place deep;
+    uint8_t room[256];
+    CALL(IGNORE_OK, come(guide, &more, &deep));
+    HOLDS(explain(guide, &deep, "a.o", 101, room).kind == IGNORE_WHY_TOO_DEEP);
+    CALL(IGNORE_OK, ignore_guide_leave(guide, &deep));
 }
 
 static void below(ignore_guide *guide, const ignore_place *root) {
@@ -235,7 +268,7 @@ static void below(ignore_guide *guide, const ignore_place *root) {
     CALL(IGNORE_NOT_UTF8, ignore_guide_enter(guide, root, BYTES("\xff"), TEXT(""), &place));
     CALL(IGNORE_NOT_UTF8, ignore_guide_enter(guide, root, TEXT("src"), BYTES("\xff\0"), &place));
     CALL(IGNORE_WANTS, begin(guide, &src, &place));
-    waits(guide, false);
+    waits(guide, "/t/src/.gitignore");
     CALL(IGNORE_MISUSED, ignore_guide_enter(guide, root, TEXT("x"), TEXT(""), &other));
     CALL(IGNORE_MISUSED, ignore_guide_leave(guide, root));
     decide(guide, root, "a.o", false, IGNORE_NO_SIZE, IGNORE_IGNORE + 8);
@@ -244,6 +277,7 @@ static void below(ignore_guide *guide, const ignore_place *root) {
     HOLDS(others == before_it);
     decide(guide, &place, "deep.c", false, IGNORE_NO_SIZE, IGNORE_IGNORE + 8);
     decide(guide, &place, "more", true, IGNORE_NO_SIZE, IGNORE_NONE + 8);
+    too_deep(guide, &place);
     CALL(IGNORE_MISUSED, ignore_guide_leave(guide, root));
     CALL(IGNORE_OK, ignore_guide_leave(guide, &place));
     CALL(IGNORE_MISUSED, ignore_guide_leave(guide, &place));
@@ -258,8 +292,10 @@ static void lead(void) {
     make(&guide);
     before(&guide);
     CALL(IGNORE_WANTS, begin(&guide, &top, &root));
-    waits(&guide, true);
+    waits(&guide, "/w/extra");
     uint32_t came = answer(&guide, &root);
+    if (!failing)
+        waits(&guide, "/w/gone");
     while (came == IGNORE_WANTS)
         came = answer(&guide, &root);
     CALL(IGNORE_OK, came == IGNORE_NO_MEMORY && failing ? come(&guide, &top, &root) : came);

@@ -210,7 +210,6 @@ CALLS = {
     "matcher_forget": [*ONE, *TEXT, POINTER(c_size_t)],
     "matcher_normalize": [*ONE, *TEXT, c_char_p, c_size_t, POINTER(c_size_t)],
     "guide_new": [*ONE, *ONE],
-    "guide_add_ignore": [*ONE, *TEXT],
     "guide_root": [*ONE, *TEXT, POINTER(Place)],
     "guide_enter": [*ONE, POINTER(Place), *TEXT, *TEXT, POINTER(Place)],
     "guide_wanted": [*ONE, POINTER(c_uint32), c_char_p, c_size_t, POINTER(c_size_t)],
@@ -219,7 +218,10 @@ CALLS = {
     "guide_decide_all": [
         *ONE, POINTER(Place), *TEXT, *TEXT, POINTER(c_uint64), c_size_t, c_char_p, c_size_t,
     ],
-    "guide_why": [*ONE, POINTER(Place), *TEXT, c_bool, POINTER(WhyParts), c_char_p, c_size_t],
+    "guide_why": [
+        *ONE, POINTER(Place), *TEXT, c_bool, c_uint64, POINTER(Found), POINTER(WhyParts), c_char_p,
+        c_size_t,
+    ],
     "guide_leave": [*ONE, POINTER(Place)],
     "guide_problem": [*ONE, c_size_t, POINTER(ProblemParts), c_char_p, c_size_t],
     "walk_new": [*ONE, *ONE, *ONE],
@@ -233,8 +235,8 @@ SWITCHES = [
 ]
 #: What a builder is told by a text.
 LABELS = [
-    "add", "add_custom_ignore_filename", "current_dir", "env_current_dir", "env_home",
-    "env_xdg_config_home", "env_git_config_global", "env_git_config_system",
+    "add", "add_custom_ignore_filename", "add_ignore_path", "current_dir", "env_current_dir",
+    "env_home", "env_xdg_config_home", "env_git_config_global", "env_git_config_system",
 ]
 CALLS.update({f"builder_{name}": [*ONE, c_bool] for name in SWITCHES})
 CALLS.update({f"builder_{name}": [*ONE, *TEXT] for name in LABELS})

@@ -7,7 +7,7 @@ from ctypes import byref, c_size_t, c_uint32
 from typing import Callable, Iterable, List, NamedTuple, Optional, Sequence, Tuple
 
 from . import _library as lib
-from ._decisions import DECISIONS, Decision
+from ._decisions import DECISIONS
 from ._errors import checked, error_of
 from ._names import of_disk, told
 from ._owner import Owner, handle_of, number
@@ -90,10 +90,7 @@ class Guide(Owner):
         code = lib.library.ignore_guide_decide(
             self.handle, byref(place), given, len(given), bool(is_dir), size, byref(found)
         )
-        kind = DECISIONS.get(code)
-        if kind is None:
-            raise error_of(code)
-        return Match(kind, found.should_descend, found.is_within_depth)
+        return match_of(code, found)
 
     def decide_all(
         self, place: lib.Place, listed: Listed, sizes: Optional[Sequence[int]] = None
@@ -114,23 +111,21 @@ class Guide(Owner):
         return codes.raw[:count]
 
     def why(
-        self, place: lib.Place, name: str, is_dir: bool
-    ) -> Tuple[Decision, lib.WhyParts, bytes]:
-        """Which rule decides on an entry, whatever its depth and its size are: the decision, the
-        parts of the reason, and its texts.
-        """
+        self, place: lib.Place, name: str, is_dir: bool, size: Optional[int] = None
+    ) -> Tuple[Match, lib.WhyParts, bytes]:
+        """What becomes of an entry, as `decide` says, the parts of the reason, and its texts."""
         parts, room = lib.WhyParts(), ctypes.create_string_buffer(512)
-        given = text(told(name))
+        found, given = self._found, text(told(name))
+        size = lib.NO_SIZE if size is None else number(size)
         while True:
             code = lib.library.ignore_guide_why(
-                self.handle, byref(place), *given, bool(is_dir), byref(parts), room, len(room)
+                self.handle, byref(place), *given, bool(is_dir), size, byref(found),
+                byref(parts), room, len(room),
             )
-            kind = DECISIONS.get(code)
-            if kind is None:
-                raise error_of(code)
+            match = match_of(code, found)
             whole = sum(lengths_of(parts))
             if whole <= len(room):
-                return kind, parts, room.raw[:whole]
+                return match, parts, room.raw[:whole]
             room = ctypes.create_string_buffer(whole)
 
     def leave(self, place: lib.Place) -> None:
@@ -191,6 +186,14 @@ class Guide(Owner):
             code = self._give(NOTHING, place)
         if code == lib.OK:
             self.leave(place)
+
+
+def match_of(code: int, found: lib.Found) -> Match:
+    """The answer of a code, or the error that it stands for."""
+    kind = DECISIONS.get(code)
+    if kind is None:
+        raise error_of(code)
+    return Match(kind, found.should_descend, found.is_within_depth)
 
 
 def problem_of(parts: lib.ProblemParts, texts: bytes) -> Problem:

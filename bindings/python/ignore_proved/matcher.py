@@ -203,18 +203,15 @@ class Matcher:
             return Explanation(Match(Decision.NONE, bool(is_dir), True), Cause.NOT_ASKED)
         is_dir = self._is_dir(below) if is_dir is None else bool(is_dir)
         stand = self._stand(below, is_dir)
-        match = self._answer(stand, below, is_dir)
         if isinstance(stand, Cause):
-            return Explanation(match, stand)
+            return Explanation(self._answer(stand, below, is_dir), stand)
         if isinstance(stand, tuple):
             around, folder = stand
             _, parts, texts = self._guide.why(around, os.path.basename(folder), True)
+            match = self._answer(stand, below, is_dir)
             return replace(explanation_of(match, parts, texts), ancestor=folder)
-        decided, parts, texts = self._guide.why(stand, os.path.basename(below), is_dir)
-        if match.is_ignore and decided is not Decision.IGNORE:
-            size = self._size(below, is_dir)
-            return Explanation(match, Cause.LARGER, size=size, limit=self._limits.max_filesize)
-        return explanation_of(match, parts, texts)
+        size = self._size(below, is_dir)
+        return explanation_of(*self._guide.why(stand, os.path.basename(below), is_dir, size))
 
     def is_ignored(self, path: Path, is_dir: Optional[bool] = None) -> bool:
         """Whether the path is ignored, or a folder below the root that it is in."""

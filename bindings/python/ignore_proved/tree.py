@@ -231,3 +231,10 @@ class Builder(Owner):
         given = text(path)
         self._tried("add_ignore", handle_of(Tree, tree), *given)
         return self
+
+    def add_ignore_path(self, path: Path) -> "Builder":
+        """Adds a file of rules by its path alone: guides read it with their first root, after those
+        of `add_ignore`. Matchers and walks of a tree don't.
+        """
+        self._call("add_ignore_path", *text(path))
+        return self

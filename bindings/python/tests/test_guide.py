@@ -4,7 +4,7 @@ import pathlib
 import tempfile
 import unittest
 
-from ignore_proved import Builder, Decision, Given, Guide, Listed, Match, MisusedError
+from ignore_proved import Builder, Cause, Decision, Given, Guide, Listed, Match, MisusedError
 from ignore_proved._library import IGNORE, NONE, WHITELIST, Place
 
 MISSING = Given(0, b"", 0)
@@ -39,8 +39,8 @@ class OwnAnswers(unittest.TestCase):
             listed = Listed.of(["a.o", "keep.o", ".h", "d"], [False, False, False, True])
             codes = [IGNORE + 8, WHITELIST + 8, IGNORE + 8, NONE + 4 + 8]
             self.assertEqual(list(guide.decide_all(top, listed)), codes)
-            decided, parts, texts = guide.why(top, "keep.o", False)
-            self.assertEqual((decided, parts.line), (Decision.WHITELIST, 3))
+            match, parts, texts = guide.why(top, "keep.o", False)
+            self.assertEqual((match, parts.line), (Match(Decision.WHITELIST, False, True), 3))
             self.assertTrue(texts.endswith(b"!keep.o"))
             self.asked.clear()
             inside = guide.enter(top, "sub", Listed.of([".mine", "x"], [False, False]))
@@ -66,6 +66,23 @@ class OwnAnswers(unittest.TestCase):
                              [IGNORE + 8, NONE + 8, NONE + 8])
             with self.assertRaises(OverflowError):
                 guide.decide(top, "a", False, -1)
+
+    def test_sizes_and_depths_are_reasons(self):
+        with self.guide(max_filesize=3, max_depth=2, min_depth=2) as guide:
+            top = guide.root("/t")
+            inside = guide.enter(top, "sub")
+            deep = guide.enter(inside, "deep")
+            for place, name, size, wanted in (
+                (top, "a", 4, Cause.TOO_SHALLOW), (inside, "a", 4, Cause.LARGER),
+                (inside, "a", 3, Cause.NO_RULE), (inside, "a", None, Cause.NO_RULE),
+                (inside, "a.o", 4, Cause.RULE), (deep, "a.o", 4, Cause.TOO_DEEP),
+            ):
+                match, parts, _ = guide.why(place, name, False, size)
+                self.assertEqual(Cause(parts.kind), wanted)
+                self.assertEqual(match, guide.decide(place, name, False, size))
+            _, parts, _ = guide.why(inside, "a", False, 4)
+            self.assertEqual((parts.size, parts.limit), (4, 3))
+            self.assertEqual(Cause(guide.why(top, "a", True)[1].kind), Cause.NO_RULE)
 
     def test_misuse_is_an_error(self):
         with self.guide() as guide:
@@ -101,6 +118,16 @@ class OwnAnswers(unittest.TestCase):
             self.assertTrue(guide.decide(top, "a.o", False).is_ignore)
             guide.leave(guide.enter(top, "other"))
             guide.leave(top)
+
+    def test_files_of_rules_are_asked_for_first(self):
+        self.files["/w/mine"] = b"*.mine\n"
+        builder = Builder("", custom_ignore_filenames=[".mine"])
+        builder.add_ignore_path("/w/mine").add_ignore_path("/w/none")
+        with builder.env(current_dir="/"), Guide(builder, self.reads) as guide:
+            top = guide.root("/t")
+            self.assertEqual(self.asked[:2], [(2, "/w/mine"), (2, "/w/none")])
+            self.assertTrue(guide.decide(top, "a.mine", False).is_ignore)
+            self.assertEqual([it.path for it in guide.problems()], ["/w/none", "/t/.ignore"])
 
     def test_names_that_are_not_utf8(self):
         self.files = {os.fsdecode(b"/t/a\xff/.mine"): b"?y\n"}

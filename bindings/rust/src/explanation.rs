@@ -126,12 +126,25 @@ impl Explanation {
     }
 }
 
-/// What decides, by a reason of which the texts stand one after the other.
-pub(crate) fn cause_of(
+/// The reason of an answer by a guide, of which the texts stand one after the other.
+pub(crate) fn reason_of(
     answer: IncrementalMatch,
     why: &Why,
     texts: &[u8],
-) -> Result<Match<Cause>, Error> {
+) -> Result<Reason, Error> {
+    match why.kind {
+        3 => Ok(Reason::TooShallow),
+        4 => Ok(Reason::TooDeep),
+        12 => Ok(Reason::Larger {
+            size: why.size,
+            limit: why.limit,
+        }),
+        _ => Ok(Reason::Decided(cause_of(answer, why, texts)?)),
+    }
+}
+
+/// What decides, by a reason of which the texts stand one after the other.
+fn cause_of(answer: IncrementalMatch, why: &Why, texts: &[u8]) -> Result<Match<Cause>, Error> {
     let (directory, texts) = texts.split_at(why.directory);
     let (source, texts) = texts.split_at(why.source);
     let (pattern, texts) = texts.split_at(why.pattern);

@@ -1,12 +1,12 @@
 //! Matchers of single paths, under the original's names, over directories on disk.
 
-use crate::explanation::{cause_of, Cause, Explanation, Reason};
+use crate::explanation::{reason_of, Explanation, Reason};
 use crate::gitignore::{done, error_of};
 use crate::host::{read, Known};
 use crate::library::{self, Builder, Found, Guide, Label, Matcher, Spot, Switch, Tree, Why};
 use crate::names::{of_disk, told};
 use crate::walk::Walk;
-use crate::{Error, Match};
+use crate::Error;
 use std::collections::HashMap;
 use std::fs;
 use std::path::{Path, PathBuf};
@@ -224,6 +224,11 @@ impl WalkBuilder {
     }
 }
 
+/// The last name of a path, as the guide is told it.
+fn name_of(below: &Path) -> Vec<u8> {
+    told(Path::new(below.file_name().unwrap_or_default())).into_owned()
+}
+
 /// What is kept of a directory below the root.
 enum Kept {
     Entered(Spot),
@@ -281,18 +286,11 @@ impl IncrementalIgnore {
         let answer = self.answer(&stand, &below, is_dir)?;
         let reason = match stand {
             Stand::At(reason) => reason,
-            Stand::Inside(parent, directory) => {
-                let cause = self.why(parent, &directory, true)?;
-                Reason::Inside { directory, cause }
-            }
-            Stand::In(place) => match (self.over(&below, is_dir), answer.is_ignore()) {
-                (Some((size, limit)), true)
-                    if !self.decided(place, &below, is_dir, None)?.is_ignore() =>
-                {
-                    Reason::Larger { size, limit }
-                }
-                _ => Reason::Decided(self.why(place, &below, is_dir)?),
+            Stand::Inside(parent, directory) => match self.why(parent, &directory, true)?.reason {
+                Reason::Decided(cause) => Reason::Inside { directory, cause },
+                reason => reason,
             },
+            Stand::In(place) => return self.why(place, &below, is_dir),
         };
         Ok(Explanation { answer, reason })
     }
@@ -326,7 +324,7 @@ impl IncrementalIgnore {
                 Some(Kept::Ignored) => return Ok(Stand::Inside(place, dir)),
                 None => {}
             }
-            if self.decided(place, &dir, true, None)?.is_ignore() {
+            if self.decided(place, &dir, true)?.is_ignore() {
                 self.dirs.insert(dir.clone(), Kept::Ignored);
                 return Ok(Stand::Inside(place, dir));
             }
@@ -352,8 +350,7 @@ impl IncrementalIgnore {
             Stand::At(_) => (library::NONE, is_dir && !is_deepest, is_within),
             Stand::Inside(..) => (library::IGNORE, false, is_within),
             Stand::In(place) => {
-                let size = self.over(below, is_dir).map(|(size, _)| size);
-                return self.decided(*place, below, is_dir, size);
+                return self.decided(*place, below, is_dir);
             }
         };
         Ok(IncrementalMatch {
@@ -369,33 +366,37 @@ impl IncrementalIgnore {
         place: Spot,
         below: &Path,
         is_dir: bool,
-        size: Option<u64>,
     ) -> Result<IncrementalMatch, Error> {
         let mut found = Found::default();
-        let name = told(Path::new(below.file_name().unwrap_or_default()));
-        let size = size.unwrap_or(library::NO_SIZE);
+        let (name, size) = (name_of(below), self.size(below, is_dir));
         let code = self.guide.decide(place, &name, is_dir, size, &mut found);
         IncrementalMatch::of(code, found)
     }
 
-    /// The size of what is at a path, and the limit, where it is larger. That of a link is of its
-    /// text.
-    fn over(&self, below: &Path, is_dir: bool) -> Option<(u64, u64)> {
-        let limit = self.limits.max_filesize.filter(|_| !is_dir)?;
-        let size = fs::symlink_metadata(self.root.join(below)).ok()?.len();
-        (size > limit).then_some((size, limit))
+    /// The size of what is at a path, where it matters and is known. That of a link is of its text.
+    fn size(&self, below: &Path, is_dir: bool) -> u64 {
+        if is_dir || self.limits.max_filesize.is_none() {
+            return library::NO_SIZE;
+        }
+        match fs::symlink_metadata(self.root.join(below)) {
+            Ok(metadata) => metadata.len(),
+            Err(_) => library::NO_SIZE,
+        }
     }
 
-    /// What decides on a path in the directory at a place.
-    fn why(&mut self, place: Spot, below: &Path, is_dir: bool) -> Result<Match<Cause>, Error> {
-        let name = told(Path::new(below.file_name().unwrap_or_default())).into_owned();
-        let (mut why, mut room) = (Why::default(), vec![0; 512]);
+    /// What becomes of a path in the directory at a place, and why.
+    fn why(&mut self, place: Spot, below: &Path, is_dir: bool) -> Result<Explanation, Error> {
+        let (mut found, mut why) = (Found::default(), Why::default());
+        let (name, size) = (name_of(below), self.size(below, is_dir));
+        let mut room = vec![0; 512];
         loop {
-            let code = self.guide.why(place, &name, is_dir, &mut why, &mut room);
-            let answer = IncrementalMatch::of(code, Found::default())?;
+            let asked = (&*name, is_dir, size);
+            let code = self.guide.why(place, asked, &mut found, &mut why, &mut room);
+            let answer = IncrementalMatch::of(code, found)?;
             let whole = why.whole();
             if whole <= room.len() {
-                return cause_of(answer, &why, &room[..whole]);
+                let reason = reason_of(answer, &why, &room[..whole])?;
+                return Ok(Explanation { answer, reason });
             }
             room.resize(whole, 0);
         }

@@ -236,6 +236,8 @@ extern "C" {
         name: *const u8,
         length: usize,
         is_dir: bool,
+        size: u64,
+        found: *mut Found,
         why: *mut Why,
         room: *mut u8,
         room_length: usize,
@@ -657,18 +659,20 @@ impl Guide {
         }
     }
 
-    /// Which rule decides on an entry of a directory that was entered.
+    /// The same, and why.
     pub fn why(
         &mut self,
         place: Spot,
-        name: &[u8],
-        is_dir: bool,
+        asked: (&[u8], bool, u64),
+        found: &mut Found,
         why: &mut Why,
         room: &mut [u8],
     ) -> u32 {
+        let (name, is_dir, size) = asked;
         let (at, length) = (name.as_ptr(), name.len());
         let (to, most) = (room.as_mut_ptr(), room.len());
-        unsafe { ignore_guide_why(&mut self.0, &place, at, length, is_dir, why, to, most) }
+        let handle = &mut self.0;
+        unsafe { ignore_guide_why(handle, &place, at, length, is_dir, size, found, why, to, most) }
     }
 
     /// Leaves a directory.

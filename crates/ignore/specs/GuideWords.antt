@@ -1,4 +1,5 @@
 -- The words of clauses on guides, beside those of `WalkWords` and `QueryWords`.
+pub use Rattle.ignore.specs.AskedNext.{AsksNext}
 pub use Rattle.ignore_dir.specs.Above.{problems_of_loads}
 pub use Rattle.ignore_dir.specs.Lists.{Placed}
 pub use Rattle.ignore_dir.specs.Load.{joined_some}
@@ -9,6 +10,7 @@ pub use Rattle.ignore_guide.specs.Guide.{AreApart, InGuide, IsRootBy, IsSameGuid
 pub use Rattle.ignore_guide.specs.Hosted.{CallRefused, IsToldOf, StepGives}
 pub use Rattle.ignore_guide.specs.Names.{IsAsked, IsLeft, IsNoPlace, IsNotLeft, IsRefused}
 pub use Rattle.ignore_guide.specs.Places.{IsGone, entered_at}
+pub use Rattle.ignore_guide.specs.Reasons.{decided_why}
 pub use Rattle.ignore_guide.specs.Told.{AreOf, IsAlmostFresh, IsFresh, without_sizes}
 pub use Rattle.ignore_guide.specs.declared.error.GuideError.TheVariants.{Memory}
 pub use Rattle.ignore_guide.specs.declared.guide.Guide.{Guide}
@@ -17,3 +19,4 @@ pub use Rattle.ignore_guide.specs.declared.places.Place.{Place}
 pub use Rattle.ignore_guide.specs.declared.told.Told.{Told}
 pub use Rattle.ignore_levels.specs.Reasons.{why_of}
 pub use Rattle.ignore_why.specs.Cited.{cited_of}
+pub use Rattle.ignore_why.specs.QueryWhy.{answer_of}

@@ -1,6 +1,7 @@
 pub mod Depths
 pub mod Builder
 pub mod Asked
+pub mod AskedNext
 pub mod Matchers
 pub mod Closures
 pub mod ItsList

@@ -95,6 +95,21 @@ pub extern "C" fn ignore_builder_add_custom_ignore_filename(
     )
 }
 
+/// Adds a file of rules by its path alone, which guides want with their first root.
+#[unsafe(no_mangle)]
+pub extern "C" fn ignore_builder_add_ignore_path(builder: &mut Handle, text: &[u8]) -> u32
+    ensures { TextSet label.File text.now builder.old.value result builder.new.value }
+{
+    mem::replace_with(
+        builder,
+        Label {
+            what: Text::File,
+            text,
+        },
+        labelled,
+    )
+}
+
 /// Sets the directory that rules from outside are relative to.
 #[unsafe(no_mangle)]
 pub extern "C" fn ignore_builder_current_dir(builder: &mut Handle, text: &[u8]) -> u32

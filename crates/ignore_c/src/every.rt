@@ -2,25 +2,25 @@
 ghost use Rattle.std.specs.Prelude.{◌≡◌, List, ℕ, Result, Ok, Err, IfOk, IfErr};
 ghost use Rattle.ignore_kept.specs.Comparing.{Compared};
 ghost use Rattle.ignore_kept.specs.Findings.{Finds, TellsFinding, TellsOverruling};
-ghost use Rattle.ignore_kept.specs.Judging.{judged_code};
 ghost use Rattle.ignore_kept.specs.Kinds.{findings_in};
 ghost use Rattle.ignore_kept.specs.Rooms.{put_in};
+ghost use Rattle.ignore_kept.specs.Stops.{ended_code};
 ghost use Rattle.ignore_kept.specs.declared.kept.Kept.{Kept};
-ghost use Rattle.ignore_kept.specs.declared.unjudged.Unjudged.{Unjudged};
+ghost use Rattle.ignore_kept.specs.declared.stopped.Stopped.{Stopped};
 
 use crate::handle::{Handle, close, give_back, lend, open};
 use core::mem;
-use ignore_kept::compared::{self, Asked, CompareOptions, DifferenceParts, Told};
-use ignore_kept::findings::{self, Dead};
+use ignore_kept::compared::{self, Asked, CompareOptions, DifferenceParts, ToldDifference};
+use ignore_kept::findings::{self, Dead, ToldFinding};
 use ignore_kept::room::put;
-use ignore_kept::{Kept, Unjudged};
+use ignore_kept::{Kept, Stopped};
 use std::alloc::Global;
 
 /// Finds the rules that decide on no question which the rules reach, and hands out their handle.
 #[unsafe(no_mangle)]
 pub extern "C" fn ignore_rules_dead(rules: &mut Handle, limit: usize, out: &mut *mut u8) -> u32
     ensures kept { rules.new.value ≡ rules.old.value }
-    ensures found { (given : Result Kept Unjudged) × Finds rules.old.value given × (result ≡ judged_code given) }
+    ensures found { (given : Result Kept Stopped) × Finds rules.old.value given × (result ≡ ended_code given) }
 {
     match mem::replace_with(rules, limit, found) {
         Ok(kept) => {
@@ -28,11 +28,11 @@ pub extern "C" fn ignore_rules_dead(rules: &mut Handle, limit: usize, out: &mut 
             *out = at as *mut u8;
             0
         }
-        Err(unjudged) => unjudged.code(),
+        Err(stopped) => stopped.code(),
     }
 }
 
-fn found(rules: Handle, limit: usize) -> (Handle, Result<Box<Kept>, Unjudged>)
+fn found(rules: Handle, limit: usize) -> (Handle, Result<Box<Kept>, Stopped>)
     ensures kept { result.0.value ≡ rules.value }
     ensures found { IfOk result.1 (λ kept. Finds rules.value (Ok kept.value)) }
     ensures refused { IfErr result.1 (λ e. Finds rules.value (Err e)) }
@@ -42,7 +42,7 @@ fn found(rules: Handle, limit: usize) -> (Handle, Result<Box<Kept>, Unjudged>)
     (close(kept), made)
 }
 
-fn boxed(alloc: Global, rules: &Kept, limit: usize) -> Result<Box<Kept>, Unjudged>
+fn boxed(alloc: Global, rules: &Kept, limit: usize) -> Result<Box<Kept>, Stopped>
     ensures found { IfOk result (λ kept. Finds rules.now (Ok kept.value)) }
     ensures refused { IfErr result (λ e. Finds rules.now (Err e)) }
 {
@@ -68,7 +68,7 @@ pub extern "C" fn ignore_findings_rule(
     told.code
 }
 
-fn rule(findings: Handle, index: usize) -> (Handle, findings::Told)
+fn rule(findings: Handle, index: usize) -> (Handle, ToldFinding)
     ensures kept { result.0.value ≡ findings.value }
     ensures told { TellsFinding (findings_in findings.value) index result.1.code result.1.dead result.1.text.items }
 {
@@ -134,7 +134,7 @@ pub extern "C" fn ignore_rules_same(
     said.code
 }
 
-fn compared(rules: Handle, asked: Asked<'_>) -> (Handle, Told)
+fn compared(rules: Handle, asked: Asked<'_>) -> (Handle, ToldDifference)
     ensures kept { result.0.value ≡ rules.value }
     ensures told { Compared rules.value asked.entry.new.now asked.entry.options.only_ignored result.1.code result.1.difference result.1.text.items }
 {

@@ -2,7 +2,7 @@
 
 ghost use Rattle.std.specs.Prelude.{◌≡◌, ◌≢◌, List, ℕ, Result, Ok, Err, IfOk, IfErr, length, string_bytes};
 ghost use Rattle.ignore_kept.specs.Deciding.{DecidesAll, DecidesTold, codes_put, ReasonsTold};
-ghost use Rattle.ignore_kept.specs.Guides.{AddsPath, AtBegun, Came, Done, Enters, Gives, Leaves, OnGuide, Roots, Starts, TellsWanted, came_code, came_place};
+ghost use Rattle.ignore_kept.specs.Guides.{AtBegun, Came, Done, Enters, Gives, Leaves, OnGuide, Roots, Starts, TellsWanted, came_code, came_place};
 ghost use Rattle.ignore_kept.specs.Kinds.{guided_in};
 ghost use Rattle.ignore_kept.specs.Parts.{TellsParts};
 ghost use Rattle.ignore_kept.specs.Rooms.{put_in};
@@ -17,10 +17,10 @@ use ignore_kept::asker::{self, Found};
 use ignore_kept::deciding::{self, Asked};
 use ignore_kept::entering::{self, Entering};
 use ignore_kept::entries::Listed;
-use ignore_kept::explained::Why;
+use ignore_kept::explained::{ToldReason, Why};
 use ignore_kept::given::Gift;
 use ignore_kept::guided::{self, Wants};
-use ignore_kept::parts::{self, Part};
+use ignore_kept::parts::{self, Part, ToldPart};
 use ignore_kept::room::put;
 use ignore_kept::{Kept, Stopped, done};
 use std::alloc::Global;
@@ -50,22 +50,6 @@ fn boxed(alloc: Global, setup: &Kept) -> Result<Box<Kept>, Stopped>
 {
     let kept = guided::start(alloc, setup)?;
     Ok(Box::new(alloc, kept)?)
-}
-
-/// Adds a file of rules that is read with the first root.
-#[unsafe(no_mangle)]
-pub extern "C" fn ignore_guide_add_ignore(guide: &mut Handle, path: &[u8]) -> u32
-    ensures { Done (OnGuide (AddsPath path.now) guide.old.value) result guide.new.value }
-{
-    mem::replace_with(guide, path, path_added)
-}
-
-fn path_added(guide: Handle, path: &[u8]) -> (Handle, u32)
-    ensures { Done (OnGuide (AddsPath path.now) guide.value) result.1 result.0.value }
-{
-    let mut kept = open(guide);
-    let code = done(guided::add_path(&mut kept, path));
-    (close(kept), code)
 }
 
 /// Begins a root.
@@ -272,34 +256,37 @@ fn all_decided(guide: Handle, listing: Listing<'_>) -> (Handle, Result<Vec<u8>, 
     (close(kept), found)
 }
 
-/// What decides on an entry of the directory at a place.
+/// What becomes of an entry of the directory at a place, and why.
 #[unsafe(no_mangle)]
 pub extern "C" fn ignore_guide_why(
     guide: &mut Handle,
     place: &Place,
     name: &[u8],
     is_dir: bool,
+    size: u64,
+    found: &mut Found,
     why: &mut Why,
     room: &mut [u8],
 ) -> u32
     ensures kept { guide.new.value ≡ guide.old.value }
-    ensures told { (text : List ℕ) × ReasonsTold place.now name.now is_dir guide.old.value result why.new text × (room.new ≡ put_in text room.old) }
+    ensures told { (text : List ℕ) × ReasonsTold place.now name.now is_dir size guide.old.value result found.new why.new text × (room.new ≡ put_in text room.old) }
 {
     let asked = Asked {
         place: *place,
         name,
         is_dir,
-        size: u64::MAX,
+        size,
     };
     let told = mem::replace_with(guide, asked, reasoned);
+    *found = told.found;
     *why = told.why;
     put(&told.text, room);
     told.code
 }
 
-fn reasoned(guide: Handle, asked: Asked<'_>) -> (Handle, deciding::Told)
+fn reasoned(guide: Handle, asked: Asked<'_>) -> (Handle, ToldReason)
     ensures kept { result.0.value ≡ guide.value }
-    ensures told { ReasonsTold asked.entry.place asked.entry.name.now asked.entry.is_dir guide.value result.1.code result.1.why result.1.text.items }
+    ensures told { ReasonsTold asked.entry.place asked.entry.name.now asked.entry.is_dir asked.entry.size guide.value result.1.code result.1.found result.1.why result.1.text.items }
 {
     let kept = open(guide);
     let alloc = *Box::allocator(&kept);
@@ -340,7 +327,7 @@ pub extern "C" fn ignore_guide_problem(
     told.code
 }
 
-fn blamed(guide: Handle, index: usize) -> (Handle, parts::Told)
+fn blamed(guide: Handle, index: usize) -> (Handle, ToldPart)
     ensures kept { result.0.value ≡ guide.value }
     ensures told { TellsParts (guided_in guide.value) index result.1.code result.1.part result.1.text.items }
 {

@@ -10,7 +10,7 @@ ghost use Rattle.ignore_kept.specs.declared.stopped.Stopped.{Stopped};
 use crate::handle::{Handle, close, give_back, lend, open};
 use core::mem;
 use ignore_kept::asker::{self, Asked, Found};
-use ignore_kept::explained::{self, Told, Why};
+use ignore_kept::explained::{self, ToldReason, Why};
 use ignore_kept::room::put;
 use ignore_kept::{Kept, Stopped};
 use std::alloc::Global;
@@ -110,7 +110,7 @@ pub extern "C" fn ignore_matcher_explained(
     told.code
 }
 
-fn explained(matcher: Handle, asked: Asked<'_>) -> (Handle, Told)
+fn explained(matcher: Handle, asked: Asked<'_>) -> (Handle, ToldReason)
     ensures { AsksWhy matcher.value asked.entry.tree.now asked.entry.path.now asked.entry.is_dir result.1.code result.1.found result.1.why result.1.text.items result.0.value }
 {
     let mut kept = open(matcher);

@@ -1,19 +1,19 @@
 //! The exports of rules.
 ghost use Rattle.std.specs.Prelude.{◌≡◌, IfOk, IfErr, List, ℕ, Result, Ok, Err, length, string_bytes};
 ghost use Rattle.ignore_kept.specs.Asks.{AsksCode, Counted, Explains, TellsRule};
-ghost use Rattle.ignore_kept.specs.Codes.{done_code};
 ghost use Rattle.ignore_kept.specs.Lines.{Begins, Builds, FileAdds, LineAdds, SetsOptions, TellsProblem};
 ghost use Rattle.ignore_kept.specs.Rooms.{put_in};
+ghost use Rattle.ignore_kept.specs.Stops.{ended_code};
 ghost use Rattle.ignore_kept.specs.declared.ask.Manner.TheVariants as manner;
 ghost use Rattle.ignore_kept.specs.declared.kept.Kept.{Kept};
-ghost use Rattle.ignore_kept.specs.declared.refused.Refused.{Refused};
+ghost use Rattle.ignore_kept.specs.declared.stopped.Stopped.{Stopped};
 
 use crate::handle::{Handle, close, open};
 use core::mem;
-use ignore_kept::ask::{self, Question, Told, alone, as_git, with_parents};
+use ignore_kept::ask::{self, Question, ToldRule, alone, as_git, with_parents};
 use ignore_kept::lines::{self, Problem};
 use ignore_kept::room::put;
-use ignore_kept::{Counts, Kept, Reason, Refused, RuleOptions};
+use ignore_kept::{Counts, Kept, Reason, RuleOptions, Stopped, done};
 use std::alloc::Global;
 
 /// Begins rules of a root, without lines, and hands out their handle.
@@ -24,7 +24,7 @@ pub extern "C" fn ignore_rules_new(
     options: &RuleOptions,
     out: &mut *mut u8,
 ) -> u32
-    ensures { (given : Result Kept Refused) × Begins root.now options.now given × (result ≡ done_code given) }
+    ensures { (given : Result Kept Stopped) × Begins root.now options.now given × (result ≡ ended_code given) }
 {
     match begun(alloc, root, options) {
         Ok(kept) => {
@@ -32,11 +32,11 @@ pub extern "C" fn ignore_rules_new(
             *out = at as *mut u8;
             0
         }
-        Err(refused) => refused.code(),
+        Err(stopped) => stopped.code(),
     }
 }
 
-fn begun(alloc: Global, root: &[u8], options: &RuleOptions) -> Result<Box<Kept>, Refused>
+fn begun(alloc: Global, root: &[u8], options: &RuleOptions) -> Result<Box<Kept>, Stopped>
     ensures begun { IfOk result (λ kept. Begins root.now options.now (Ok kept.value)) }
     ensures refused { IfErr result (λ e. Begins root.now options.now (Err e)) }
 {
@@ -47,13 +47,13 @@ fn begun(alloc: Global, root: &[u8], options: &RuleOptions) -> Result<Box<Kept>,
 /// Sets how later lines are read.
 #[unsafe(no_mangle)]
 pub extern "C" fn ignore_rules_set_options(rules: &mut Handle, options: &RuleOptions) -> u32
-    ensures { (given : Result (Unit {0}) Refused) × SetsOptions rules.old.value options.now given rules.new.value × (result ≡ done_code given) }
+    ensures { (given : Result (Unit {0}) Stopped) × SetsOptions rules.old.value options.now given rules.new.value × (result ≡ ended_code given) }
 {
     mem::replace_with(rules, options, |rules, options| options_set(rules, options))
 }
 
 fn options_set(rules: Handle, options: &RuleOptions) -> (Handle, u32)
-    ensures { (given : Result (Unit {0}) Refused) × SetsOptions rules.value options.now given result.0.value × (result.1 ≡ done_code given) }
+    ensures { (given : Result (Unit {0}) Stopped) × SetsOptions rules.value options.now given result.0.value × (result.1 ≡ ended_code given) }
 {
     let mut kept = open(rules);
     let code = done(lines::set_options(&mut kept, options));
@@ -63,13 +63,13 @@ fn options_set(rules: Handle, options: &RuleOptions) -> (Handle, u32)
 /// Adds a line, as in gitignore(5).
 #[unsafe(no_mangle)]
 pub extern "C" fn ignore_rules_add_line(rules: &mut Handle, from: &[u8], line: &[u8]) -> u32
-    ensures { (given : Result (Unit {0}) Refused) × LineAdds rules.old.value from.now line.now given rules.new.value × (result ≡ done_code given) }
+    ensures { (given : Result (Unit {0}) Stopped) × LineAdds rules.old.value from.now line.now given rules.new.value × (result ≡ ended_code given) }
 {
     mem::replace_with(rules, line, |rules, line| line_added(rules, from, line))
 }
 
 fn line_added(rules: Handle, from: &[u8], line: &[u8]) -> (Handle, u32)
-    ensures { (given : Result (Unit {0}) Refused) × LineAdds rules.value from.now line.now given result.0.value × (result.1 ≡ done_code given) }
+    ensures { (given : Result (Unit {0}) Stopped) × LineAdds rules.value from.now line.now given result.0.value × (result.1 ≡ ended_code given) }
 {
     let mut kept = open(rules);
     let alloc = *Box::allocator(&kept);
@@ -80,13 +80,13 @@ fn line_added(rules: Handle, from: &[u8], line: &[u8]) -> (Handle, u32)
 /// Adds the lines of a text that stands for the file at a path.
 #[unsafe(no_mangle)]
 pub extern "C" fn ignore_rules_add_file(rules: &mut Handle, path: &[u8], text: &[u8]) -> u32
-    ensures { (given : Result (Unit {0}) Refused) × FileAdds rules.old.value path.now text.now given rules.new.value × (result ≡ done_code given) }
+    ensures { (given : Result (Unit {0}) Stopped) × FileAdds rules.old.value path.now text.now given rules.new.value × (result ≡ ended_code given) }
 {
     mem::replace_with(rules, text, |rules, text| file_added(rules, path, text))
 }
 
 fn file_added(rules: Handle, path: &[u8], text: &[u8]) -> (Handle, u32)
-    ensures { (given : Result (Unit {0}) Refused) × FileAdds rules.value path.now text.now given result.0.value × (result.1 ≡ done_code given) }
+    ensures { (given : Result (Unit {0}) Stopped) × FileAdds rules.value path.now text.now given result.0.value × (result.1 ≡ ended_code given) }
 {
     let mut kept = open(rules);
     let code = done(lines::add_file(&mut kept, path, text));
@@ -121,13 +121,13 @@ fn problem_told(rules: Handle) -> (Handle, Problem)
 /// Makes the matcher of the lines: from now on the rules are asked.
 #[unsafe(no_mangle)]
 pub extern "C" fn ignore_rules_build(rules: &mut Handle) -> u32
-    ensures { (given : Result (Unit {0}) Refused) × Builds rules.old.value given rules.new.value × (result ≡ done_code given) }
+    ensures { (given : Result (Unit {0}) Stopped) × Builds rules.old.value given rules.new.value × (result ≡ ended_code given) }
 {
     mem::replace_with(rules, (), |rules, ()| built(rules))
 }
 
 fn built(rules: Handle) -> (Handle, u32)
-    ensures { (given : Result (Unit {0}) Refused) × Builds rules.value given result.0.value × (result.1 ≡ done_code given) }
+    ensures { (given : Result (Unit {0}) Stopped) × Builds rules.value given result.0.value × (result.1 ≡ ended_code given) }
 {
     let mut kept = open(rules);
     let code = mem::replace_with(&mut *kept, (), |kept, ()| {
@@ -237,7 +237,7 @@ pub extern "C" fn ignore_rules_decided_as_git(
 }
 
 /// Hands out what is told: the reason and the first bytes of the texts, and the number as result.
-fn hand_over(told: Told, reason: &mut Reason, room: &mut [u8]) -> u32
+fn hand_over(told: ToldRule, reason: &mut Reason, room: &mut [u8]) -> u32
     ensures code { result ≡ told.code }
     ensures reason { reason.new ≡ told.reason }
     ensures room { room.new ≡ put_in told.text.items room.old }
@@ -247,7 +247,7 @@ fn hand_over(told: Told, reason: &mut Reason, room: &mut [u8]) -> u32
     told.code
 }
 
-fn explained(rules: Handle, asked: Question<'_>) -> (Handle, Told)
+fn explained(rules: Handle, asked: Question<'_>) -> (Handle, ToldRule)
     ensures kept { result.0.value ≡ rules.value }
     ensures told { Explains rules.value asked.entry.manner asked.entry.path.now asked.entry.is_dir result.1.code result.1.reason result.1.text.items }
 {
@@ -271,7 +271,7 @@ pub extern "C" fn ignore_rules_rule(
     hand_over(mem::replace_with(rules, index, rule), reason, room)
 }
 
-fn rule(rules: Handle, index: usize) -> (Handle, Told)
+fn rule(rules: Handle, index: usize) -> (Handle, ToldRule)
     ensures kept { result.0.value ≡ rules.value }
     ensures told { TellsRule rules.value index result.1.code result.1.reason result.1.text.items }
 {
@@ -304,14 +304,4 @@ fn counted(rules: Handle) -> (Handle, (u32, Counts))
 #[unsafe(no_mangle)]
 pub extern "C" fn ignore_rules_free(rules: Handle) {
     let _kept = open(rules);
-}
-
-/// The number of a call that returns nothing.
-fn done(given: Result<(), Refused>) -> u32
-    ensures { result ≡ done_code given }
-{
-    match given {
-        Ok(()) => 0,
-        Err(refused) => refused.code(),
-    }
 }

@@ -2,7 +2,7 @@
 ghost use Rattle.std.specs.Prelude.{◌≡◌, Result, Ok, Err, IfOk, IfErr, Some, None};
 ghost use Rattle.std.specs.List.{slice_get};
 ghost use Rattle.ignore_kept.specs.Stops.{ended_code};
-ghost use Rattle.ignore_kept.specs.Trees.{Begins, Told, Faulted};
+ghost use Rattle.ignore_kept.specs.Trees.{Begins, Changed, Faulted};
 ghost use Rattle.ignore_kept.specs.declared.change.Change.TheVariants as change;
 ghost use Rattle.ignore_kept.specs.declared.kept.Kept.{Kept};
 ghost use Rattle.ignore_kept.specs.declared.stopped.Stopped.{Stopped};
@@ -72,7 +72,7 @@ fn begun(alloc: Global, cwd: &[u8]) -> Result<Box<Kept>, Stopped>
 }
 
 fn told(tree: Handle, news: News<'_>) -> (Handle, u32)
-    ensures { Told tree.value news.entry.change news.entry.path.now result.1 result.0.value }
+    ensures { Changed tree.value news.entry.change news.entry.path.now result.1 result.0.value }
 {
     let mut kept = open(tree);
     let code = done(change::tell(&mut kept, news.path, news.change));
@@ -82,7 +82,7 @@ fn told(tree: Handle, news: News<'_>) -> (Handle, u32)
 /// Adds an empty directory.
 #[unsafe(no_mangle)]
 pub extern "C" fn ignore_tree_add_dir(tree: &mut Handle, path: &[u8]) -> u32
-    ensures { Told tree.old.value (change.Dir) path.now result tree.new.value }
+    ensures { Changed tree.old.value (change.Dir) path.now result tree.new.value }
 {
     let change = Change::Dir;
     mem::replace_with(tree, News { path, change }, told)
@@ -91,7 +91,7 @@ pub extern "C" fn ignore_tree_add_dir(tree: &mut Handle, path: &[u8]) -> u32
 /// Adds a file with these bytes.
 #[unsafe(no_mangle)]
 pub extern "C" fn ignore_tree_add_file(tree: &mut Handle, path: &[u8], bytes: &[u8]) -> u32
-    ensures { Told tree.old.value (change.File bytes.entry) path.now result tree.new.value }
+    ensures { Changed tree.old.value (change.File bytes.entry) path.now result tree.new.value }
 {
     let change = Change::File(bytes);
     mem::replace_with(tree, News { path, change }, told)
@@ -100,7 +100,7 @@ pub extern "C" fn ignore_tree_add_file(tree: &mut Handle, path: &[u8], bytes: &[
 /// Adds a symbolic link, whose target needn't exist.
 #[unsafe(no_mangle)]
 pub extern "C" fn ignore_tree_add_link(tree: &mut Handle, path: &[u8], target: &[u8]) -> u32
-    ensures { Told tree.old.value (change.Link target.entry) path.now result tree.new.value }
+    ensures { Changed tree.old.value (change.Link target.entry) path.now result tree.new.value }
 {
     let change = Change::Link(target);
     mem::replace_with(tree, News { path, change }, told)
@@ -109,7 +109,7 @@ pub extern "C" fn ignore_tree_add_link(tree: &mut Handle, path: &[u8], target: &
 /// Adds something whose name isn't UTF-8 to a directory.
 #[unsafe(no_mangle)]
 pub extern "C" fn ignore_tree_add_nameless(tree: &mut Handle, path: &[u8]) -> u32
-    ensures { Told tree.old.value (change.Nameless) path.now result tree.new.value }
+    ensures { Changed tree.old.value (change.Nameless) path.now result tree.new.value }
 {
     let change = Change::Nameless;
     mem::replace_with(tree, News { path, change }, told)
@@ -118,7 +118,7 @@ pub extern "C" fn ignore_tree_add_nameless(tree: &mut Handle, path: &[u8]) -> u3
 /// Sets the size that is reported for a file.
 #[unsafe(no_mangle)]
 pub extern "C" fn ignore_tree_set_size(tree: &mut Handle, path: &[u8], size: u64) -> u32
-    ensures { Told tree.old.value (change.Size size) path.now result tree.new.value }
+    ensures { Changed tree.old.value (change.Size size) path.now result tree.new.value }
 {
     let change = Change::Size(size);
     mem::replace_with(tree, News { path, change }, told)
@@ -132,7 +132,7 @@ pub extern "C" fn ignore_tree_set_identity(
     device: u64,
     inode: u64,
 ) -> u32
-    ensures { Told tree.old.value (change.Identity (Some (record { device = device; inode = inode }))) path.now result tree.new.value }
+    ensures { Changed tree.old.value (change.Identity (Some (record { device = device; inode = inode }))) path.now result tree.new.value }
 {
     let change = Change::Identity(Some(Identity { device, inode }));
     mem::replace_with(tree, News { path, change }, told)
@@ -141,7 +141,7 @@ pub extern "C" fn ignore_tree_set_identity(
 /// Says that the identity of a path is unknown.
 #[unsafe(no_mangle)]
 pub extern "C" fn ignore_tree_clear_identity(tree: &mut Handle, path: &[u8]) -> u32
-    ensures { Told tree.old.value (change.Identity None) path.now result tree.new.value }
+    ensures { Changed tree.old.value (change.Identity None) path.now result tree.new.value }
 {
     let change = Change::Identity(None);
     mem::replace_with(tree, News { path, change }, told)
@@ -150,7 +150,7 @@ pub extern "C" fn ignore_tree_clear_identity(tree: &mut Handle, path: &[u8]) -> 
 /// Writes a file anew, with these bytes.
 #[unsafe(no_mangle)]
 pub extern "C" fn ignore_tree_rewrite_file(tree: &mut Handle, path: &[u8], bytes: &[u8]) -> u32
-    ensures { Told tree.old.value (change.Rewritten bytes.entry) path.now result tree.new.value }
+    ensures { Changed tree.old.value (change.Rewritten bytes.entry) path.now result tree.new.value }
 {
     let change = Change::Rewritten(bytes);
     mem::replace_with(tree, News { path, change }, told)
@@ -159,7 +159,7 @@ pub extern "C" fn ignore_tree_rewrite_file(tree: &mut Handle, path: &[u8], bytes
 /// Removes what is at a path, with all that is below it.
 #[unsafe(no_mangle)]
 pub extern "C" fn ignore_tree_remove(tree: &mut Handle, path: &[u8]) -> u32
-    ensures { Told tree.old.value (change.Removed) path.now result tree.new.value }
+    ensures { Changed tree.old.value (change.Removed) path.now result tree.new.value }
 {
     let change = Change::Removed;
     mem::replace_with(tree, News { path, change }, told)
@@ -169,7 +169,7 @@ pub extern "C" fn ignore_tree_remove(tree: &mut Handle, path: &[u8]) -> u32
 #[tactic(auto, using(crate::proofs::Faults::unfaulted))]
 #[unsafe(no_mangle)]
 pub extern "C" fn ignore_tree_fault_stat(tree: &mut Handle, path: &[u8], fault: u32) -> u32
-    ensures { Faulted (slice_get FAULTS fault) (λ fault. Told tree.old.value (change.StatFault fault) path.now result tree.new.value) result tree.old.value tree.new.value }
+    ensures { Faulted (slice_get FAULTS fault) (λ fault. Changed tree.old.value (change.StatFault fault) path.now result tree.new.value) result tree.old.value tree.new.value }
 {
     match fault_of(fault) {
         None => Stopped::Misused.code(),
@@ -184,7 +184,7 @@ pub extern "C" fn ignore_tree_fault_stat(tree: &mut Handle, path: &[u8], fault: 
 #[tactic(auto, using(crate::proofs::Faults::unfaulted))]
 #[unsafe(no_mangle)]
 pub extern "C" fn ignore_tree_fault_list(tree: &mut Handle, path: &[u8], fault: u32) -> u32
-    ensures { Faulted (slice_get FAULTS fault) (λ fault. Told tree.old.value (change.ListFault fault) path.now result tree.new.value) result tree.old.value tree.new.value }
+    ensures { Faulted (slice_get FAULTS fault) (λ fault. Changed tree.old.value (change.ListFault fault) path.now result tree.new.value) result tree.old.value tree.new.value }
 {
     match fault_of(fault) {
         None => Stopped::Misused.code(),
@@ -204,7 +204,7 @@ pub extern "C" fn ignore_tree_cut_contents(
     len: usize,
     fault: u32,
 ) -> u32
-    ensures { Faulted (slice_get FAULTS fault) (λ fault. Told tree.old.value (change.Cut len fault) path.now result tree.new.value) result tree.old.value tree.new.value }
+    ensures { Faulted (slice_get FAULTS fault) (λ fault. Changed tree.old.value (change.Cut len fault) path.now result tree.new.value) result tree.old.value tree.new.value }
 {
     match fault_of(fault) {
         None => Stopped::Misused.code(),

@@ -9,7 +9,7 @@ ghost use Rattle.ignore_kept.specs.declared.stopped.Stopped.{Stopped};
 use crate::handle::{Handle, close, give_back, lend, open};
 use core::mem;
 use ignore_kept::room::put;
-use ignore_kept::walked::{self, Told, WalkEntry};
+use ignore_kept::walked::{self, ToldItem, WalkEntry};
 use ignore_kept::{Kept, Stopped};
 use std::alloc::Global;
 
@@ -59,7 +59,7 @@ pub extern "C" fn ignore_walk_next(walk: &mut Handle, entry: &mut WalkEntry, roo
     told.code
 }
 
-fn next(walk: Handle, room: usize) -> (Handle, Told)
+fn next(walk: Handle, room: usize) -> (Handle, ToldItem)
     ensures { Nexts room walk.value result.1.code result.1.entry result.1.text.items result.0.value }
 {
     let mut kept = open(walk);

@@ -1,3 +1,4 @@
+pub mod AskLemmas
 pub mod EnterLemmas
 pub mod FreeLemmas
 pub mod HostLemmas
@@ -5,4 +6,5 @@ pub mod LawLemmas
 pub mod NameLemmas
 pub mod StandLemmas
 pub mod ToldLemmas
+pub mod WhyLemmas
 pub mod WorkedGuide

@@ -1,11 +1,15 @@
 -- Worked places: one that is entered, one whose number serves a later directory, one that is free;
 -- and sizes at a limit.
 use Rattle.std.proofs.Common.{◌≡◌, [], None, Some, true, false, refl, codes}
+use Rattle.ignore_base.specs.declared.match_result.Match.{Match}
 use Rattle.ignore_guide.specs.Guide.{is_over}
 use Rattle.ignore_guide.specs.Names.{is_name}
 use Rattle.ignore_guide.specs.Places.{dir_by}
+use Rattle.ignore_guide.specs.Reasons.{why_within}
 use Rattle.ignore_guide.specs.declared.places.Entered.{Entered}
 use Rattle.ignore_guide.specs.declared.places.Held.TheVariants.{Entered as Holds, Free}
+use Rattle.ignore_why.specs.Cited.{Cited}
+use Rattle.ignore_why.specs.QueryWhy.QueryWhy.{decided as by_rules, larger}
 
 -- what was entered with the serial 7 is there for this serial alone
 pub by_its_serial : (e : Entered) → (dir_by 7 (Some (record { serial = 7; children = 0; held = Holds e })) ≡ Some e)
@@ -24,3 +28,9 @@ sizes = (refl, refl, refl, refl)
 -- `a.b` is a name; the empty text, `..` and `a/b` are none
 pub names : (is_name (codes "a.b") ≡ true) × (is_name [] ≡ false) × (is_name (codes "..") ≡ false) × (is_name (codes "a/b") ≡ false)
 names = (refl, refl, refl, refl)
+
+-- 10 bytes above a limit of 9 are the reason; 10 within a limit of 10, and a size that isn't known, leave
+-- it to what the rules say
+pub reasons : (said : Match Cited) → (why_within (Some 9) (Some 10) said ≡ larger 10 9) × (why_within (Some 10) (Some 10) said ≡ by_rules said)
+    × (why_within (Some 9) None said ≡ by_rules said)
+reasons said = (refl, refl, refl)

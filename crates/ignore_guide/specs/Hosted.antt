@@ -1,5 +1,5 @@
 -- How far a call of a guide has come whose host is asked.
-use Rattle.std.specs.Prelude.{◌≡◌, ℕ, ◌+◌, List, Option, None, Some, Result, Ok, Err, option_map, if◌then◌else◌}
+use Rattle.std.specs.Prelude.{◌≡◌, ℕ, ◌+◌, false, List, Option, None, Some, Result, Ok, Err, option_map, if◌then◌else◌}
 use Rattle.std.specs.BTreeMap.{get_by_text}
 use Rattle.std.specs.Str.{bytes_eq}
 use denote.Bor.{Bor}
@@ -16,6 +16,7 @@ use Rattle.ignore_files.specs.declared.files.Files.{Ghosts as Files}
 use Rattle.ignore_files.specs.declared.types.Contents.{Contents}
 use Rattle.ignore_files.specs.declared.types.FileType.{FileType}
 use Rattle.ignore_files.specs.declared.types.Metadata.{Metadata}
+use Rattle.ignore_guide.specs.Asking.{is_told}
 use Rattle.ignore_guide.specs.Guide.{IsRootBy, StandsFor, holding, root_reached}
 use Rattle.ignore_guide.specs.Names.{IsRefused}
 use Rattle.ignore_guide.specs.declared.error.GuideError.{GuideError}
@@ -48,10 +49,10 @@ abbrev pub CallRefused : Places → Call → GuideError → Type 0
 CallRefused places (call.Root root) e = e ≡ Memory
 CallRefused places (call.Enter parent name) e = IsRefused places parent name e
 
--- a call waits, with what was told for it, and nothing changed; or its directory has a place, by what
--- was told
+-- a call waits, with what was told for it, for something that wasn't, and nothing changed; or its
+-- directory has a place, by what was told
 abbrev pub StepGives : Files Told → Call → Told → Guide → Step → Guide → Type 0
-StepGives files call told old (step.Wants w) new = (new ≡ old) × (w.call ≡ call) × (w.told ≡ told)
+StepGives files call told old (step.Wants w) new = (new ≡ old) × (w.call ≡ call) × (w.told ≡ told) × (is_told told w.question ≡ false)
 StepGives files call told old (step.Arrived r) new = Comes files told call old r new
 
 -- what a host says that a path leads to, if anywhere; it says no size

@@ -14,7 +14,7 @@ ghost use Rattle.ignore_guide.specs.declared.told.Told.{Told};
 use crate::error::GuideError;
 use crate::guide::{Arrived, Guide};
 use crate::judge::is_name;
-use crate::missing::{By, Question, Wanted, missing_at_root, missing_in};
+use crate::missing::{By, Question, Wanted, missing_at_root, missing_in, next_untold};
 use crate::places::{Entered, Place};
 use crate::survey::{Listed, Survey};
 use crate::told::Told;
@@ -128,7 +128,7 @@ impl Guide {
         ensures same { IsSameGuide self.old self.new }
     {
         let mut rest = rest;
-        if let Some(question) = rest.pop() {
+        if let Some(question) = next_untold(&told, &mut rest) {
             return Ok(Step::Wants(Waiting {
                 call,
                 told,
@@ -142,7 +142,7 @@ impl Guide {
         } else {
             self.missing(&call, &told)?
         };
-        if let Some(question) = missing.pop() {
+        if let Some(question) = next_untold(&told, &mut missing) {
             return Ok(Step::Wants(Waiting {
                 call,
                 told,

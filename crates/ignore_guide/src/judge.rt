@@ -290,7 +290,12 @@ impl Guide {
     }
 
     /// What decides on an entry of a directory, by name.
-    fn cause_in(&self, dir: &Entered, name: &str, is_dir: bool) -> Result<Match<Cause>, AllocError>
+    pub(crate) fn cause_in(
+        &self,
+        dir: &Entered,
+        name: &str,
+        is_dir: bool,
+    ) -> Result<Match<Cause>, AllocError>
         ensures value { (at : Reached) → Stands (slots_of self.now.levels) dir.now at
             → IfOk result (λ m. match_map cited_of m ≡ cause_at self.now.settings self.now.outside (entry at name.now) is_dir) }
     {

@@ -10,9 +10,12 @@ ghost use Rattle.ignore_dir.specs.declared.settings.Settings.{Settings};
 ghost use Rattle.ignore_files.specs.Gives.{IsHonest};
 ghost use Rattle.ignore_files.specs.Tree.{Tree};
 ghost use Rattle.ignore_guide.specs.Told.{AreOf, without_sizes};
+ghost use Rattle.ignore_dir.specs.Steps.{Reached};
 ghost use Rattle.ignore_guide.specs.Guide.{StandsFor, decided, len_of};
+ghost use Rattle.ignore_guide.specs.Reasons.{decided_why};
 ghost use Rattle.ignore_guide.specs.declared.guide.Guide.{Guide};
 ghost use Rattle.ignore_guide.specs.declared.places.Place.{Place};
+ghost use Rattle.ignore_why.specs.QueryWhy.{answer_of, query_why};
 
 use crate::told::Told;
 use ignore_dir::laws::steps_are_whole;
@@ -40,6 +43,21 @@ pub fn a_guide_decides_as_a_matcher()
 {
     steps_are_whole();
 }
+
+/// What becomes of an entry is what goes with its reason.
+pub fn a_guide_answers_by_its_reason()
+    ensures { (s : Settings) (o : Outside) (depth : ℕ) (at : Reached) (name : List ℕ) (is_dir : Bool) (size : Option ℕ)
+        → decided s o depth at name is_dir size ≡ answer_of s depth is_dir (decided_why s o depth at name is_dir size) }
+{}
+
+/// The reason is that of a matcher over the tree for the path, where what becomes of the entry is what
+/// the matcher answers (`a_guide_decides_as_a_matcher`).
+pub fn a_guide_explains_as_a_matcher()
+    ensures { (g : QueryScene) (path : List ℕ) (front : List (List ℕ)) (n : List ℕ) (is_dir : Bool) (size : Option ℕ)
+        → is_asked g.root path ≡ true → has_rules g.tree g.root path ≡ true → names_of path ≡ front ++ n ∷ []
+        → list_any (is_ignored g) (ancestors (names_of path)) ≡ false → size ≡ len_of (size_of g path)
+        → decided_why g.settings g.outside (length front + 1) (reached_in g front) n is_dir size ≡ query_why g path is_dir }
+{}
 
 /// What a host told of a tree. Its answers are consistent with the tree without sizes (`honest`),
 /// whose directories have the same loads (`loads`), and in which each way leads to the same (`way`).

@@ -3,6 +3,7 @@
 #![tactic(auto)]
 
 mod error;
+mod explain;
 mod free;
 mod guide;
 mod hosted;

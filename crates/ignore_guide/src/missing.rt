@@ -4,6 +4,11 @@
 //! of rules for an empty one, so that no file is parsed: a `.git` file and `commondir`, which lead on
 //! to others, are the only ones whose bytes matter here. Where a listing shows that no repository
 //! begins in a directory, its names alone say what is asked (`survey`).
+ghost use Rattle.std.specs.Prelude.{◌≡◌, [], None, true, false, IfOk, option_map, string_bytes, ⊤};
+ghost use Rattle.std.specs.Option.{MatchOption, option_copied};
+ghost use Rattle.ignore_guide.specs.Asking.{AsksOutside, first_unread, is_answered, is_known, is_read, is_told, of_file};
+ghost use Rattle.ignore_guide.specs.declared.missing.Wanted.TheVariants.{Canonical, File};
+
 use crate::told::{Told, copied};
 use ignore_base::Fault;
 use ignore_base::text::file_name;
@@ -203,46 +208,146 @@ pub(crate) fn missing_at_root(
     Ok(search.missing.into_inner())
 }
 
-/// What is still to be asked before git's global file can be read: the configurations that name it,
-/// and then the file.
+/// Whether it was told what can be read at a path.
+fn is_read(told: &Told, path: &str) -> bool
+    ensures { result ≡ is_read told.now path.now }
+{
+    match told.reads.get(path) {
+        Some(_) => true,
+        None => false,
+    }
+}
+
+/// Whether it was told what a path leads to.
+fn is_known(told: &Told, path: &str) -> bool
+    ensures { result ≡ is_known told.now path.now }
+{
+    if told.lacks(path) {
+        return true;
+    }
+    match told.kinds.get(path) {
+        Some(_) => true,
+        None => false,
+    }
+}
+
+/// Whether a path's canonical one was told.
+fn is_placed(told: &Told, path: &str) -> bool
+    ensures { result ≡ is_answered Canonical told.now path.now }
+{
+    match told.paths.get(path) {
+        Some(_) => true,
+        None => false,
+    }
+}
+
+/// Whether what a question asks was told.
+fn is_told(told: &Told, question: &Question) -> bool
+    ensures { result ≡ is_told told.now question.now }
+{
+    let path = question.path.as_str();
+    match question.wanted {
+        Wanted::Kind => is_known(told, path),
+        Wanted::File => told.lacks(path) || (is_known(told, path) && is_read(told, path)),
+        Wanted::Canonical => is_placed(told, path),
+    }
+}
+
+/// Takes the last of some questions whose answer wasn't told, and those after it.
+pub(crate) fn next_untold(told: &Told, questions: &mut Vec<Question>) -> Option<Question>
+    ensures untold { MatchOption result ⊤ (λ q. is_told told.now q ≡ false) }
+    ensures none { questions.old.items ≡ [] → result ≡ None }
+{
+    for _ in 0..questions.len() {
+        let Some(question) = questions.pop() else {
+            return None;
+        };
+        if !is_told(told, &question) {
+            return Some(question);
+        }
+    }
+    None
+}
+
+/// The question for the file at a path.
+fn of_file(alloc: Global, path: &str) -> Result<Question, AllocError>
+    ensures { IfOk result (λ q. q ≡ of_file path.now) }
+{
+    let path = Name::from_str(alloc, path)?;
+    Ok(Question {
+        wanted: Wanted::File,
+        path,
+    })
+}
+
+/// The first of some paths of which it wasn't told what can be read there.
+fn first_unread<'p>(told: &Told, paths: &'p [Name]) -> Option<&'p Name>
+    ensures { option_copied result ≡ first_unread told.now paths.now }
+{
+    paths.iter().find(|path| !is_read(told, path.as_str()))
+}
+
+/// What is still to be asked next before the files of rules at some paths can be read: the first that
+/// wasn't told. For dependents.
 ///
 /// # Errors
 /// Out of memory.
-pub fn missing_outside(alloc: Global, told: &Told, env: &Env) -> Result<Vec<Question>, AllocError> {
+pub fn next_file(alloc: Global, told: &Told, paths: &[Name]) -> Result<Option<Question>, AllocError>
+    ensures { IfOk result (λ q. q ≡ option_map of_file (first_unread told.now paths.now)) }
+{
+    match first_unread(told, paths) {
+        None => Ok(None),
+        Some(path) => Ok(Some(of_file(alloc, path.as_str())?)),
+    }
+}
+
+/// A configuration of git that is read on the way to the global file, and that wasn't told.
+fn next_configuration(alloc: Global, told: &Told, env: &Env) -> Result<Question, AllocError>
+    ensures { IfOk result (λ q. (q.wanted ≡ File) × (is_read told.now q.path ≡ false)) }
+{
     let search = Search {
         told,
         is_whole: true,
         missing: RefCell::new(Vec::new(alloc)),
     };
-    let Ok(path) = gitconfig_excludes_path(alloc, &search, env) else {
+    if gitconfig_excludes_path(alloc, &search, env).is_err() {
         return Err(AllocError);
-    };
-    let mut missing = search.missing.into_inner();
-    if !missing.is_empty() {
-        return Ok(missing);
     }
-    if let Some(path) = path {
-        if told.reads.get(path.as_str()).is_none() {
-            add(alloc, &mut missing, Wanted::File, path.as_str())?;
+    for question in search.missing.into_inner() {
+        if !is_read(told, question.path.as_str()) {
+            return Ok(Question {
+                wanted: Wanted::File,
+                path: question.path,
+            });
         }
     }
-    Ok(missing)
+    Err(AllocError)
 }
 
-/// Adds what is still to be asked before files of rules at some paths can be read. For dependents.
+/// The file at a path, where it wasn't told.
+fn unless_read(told: &Told, path: String) -> Option<Question>
+    ensures unread { MatchOption result (is_read told.now (string_bytes path) ≡ true) (λ q. (q ≡ of_file (string_bytes path)) × (is_read told.now (string_bytes path) ≡ false)) }
+{
+    if is_read(told, path.as_str()) {
+        return None;
+    }
+    Some(Question {
+        wanted: Wanted::File,
+        path: Name::new(path),
+    })
+}
+
+/// What is still to be asked next before git's global file can be read: a configuration that names
+/// it, or the file, where that wasn't told. For dependents.
 ///
 /// # Errors
 /// Out of memory.
-pub fn missing_files(
-    alloc: Global,
-    told: &Told,
-    paths: &[Name],
-    missing: &mut Vec<Question>,
-) -> Result<(), AllocError> {
-    for path in paths {
-        if told.reads.get(path.as_str()).is_none() {
-            add(alloc, missing, Wanted::File, path.as_str())?;
-        }
+pub fn next_outside(alloc: Global, told: &Told, env: &Env) -> Result<Option<Question>, AllocError>
+    ensures { IfOk result (λ q. AsksOutside told.now env.now q) }
+{
+    match gitconfig_excludes_path(alloc, told, env) {
+        Ok(None) => Ok(None),
+        Ok(Some(path)) => Ok(unless_read(told, path)),
+        Err(_) => Ok(Some(next_configuration(alloc, told, env)?)),
     }
-    Ok(())
 }

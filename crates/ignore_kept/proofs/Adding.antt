@@ -6,20 +6,18 @@ use Rattle.ignore_kept.specs.Lines.{LineAdds, Pushes, SetsOptions, read_with, so
 use Rattle.ignore_kept.specs.declared.kept.Kept.{Kept}
 use Rattle.ignore_kept.specs.declared.kept.Kept.TheVariants as keeps
 use Rattle.ignore_kept.specs.declared.kept.Lines.{Lines}
-use Rattle.ignore_kept.specs.declared.refused.Refused.{Refused}
 use Rattle.ignore_kept.specs.declared.rule.RuleOptions.{RuleOptions}
-use Rattle.ignore_kept.specs.declared.refused.Refused.TheVariants.{NotUtf8, Memory, Line, Misused, Outside}
+use Rattle.ignore_kept.specs.declared.stopped.Stopped.{Stopped}
+use Rattle.ignore_kept.specs.declared.stopped.Stopped.TheVariants.{Memory, Invalid}
 
-added : (from line : Bytes) (old : Lines) (r : Result (Unit {0}) Refused) (new : Lines)
+added : (from line : Bytes) (old : Lines) (r : Result (Unit {0}) Stopped) (new : Lines)
     → Pushes old (source_of from) line r new → LineAdds (keeps.Lines old) from line r (keeps.Lines new)
 added from line old (Ok done) new p = (old.builder, new.builder, refl, refl, p.0, p.1)
-added from line old (Err Line) new p = (old.builder, p.0, refl, ap Some p.1, p.2, p.3)
+added from line old (Err Invalid) new p = (old.builder, p.0, refl, ap Some p.1, p.2, p.3)
 added from line old (Err Memory) new p = ap keeps.Lines p
-added from line old (Err NotUtf8) new p = absurd p
-added from line old (Err Misused) new p = absurd p
-added from line old (Err Outside) new p = absurd p
+added from line old (Err other) new p = absurd p
 
-pub line_adds : (kept : Kept) (from line : Bytes) (old : Lines) (source : Option Path) (r : Result (Unit {0}) Refused) (new : Lines)
+pub line_adds : (kept : Kept) (from line : Bytes) (old : Lines) (source : Option Path) (r : Result (Unit {0}) Stopped) (new : Lines)
     → kept ≡ keeps.Lines old → source ≡ source_of from → Pushes old source line r new → LineAdds kept from line r (keeps.Lines new)
 line_adds kept from line old source r new is of p =
     subst (λ (k : Kept). LineAdds k from line r (keeps.Lines new)) (sym is)

@@ -24,10 +24,7 @@ module _ (builder files : Kept) (options : Setup) (told : Memory) (b : builder �
   pub builds_none : (e : Stopped) → IsBuilt told options.env options.options (Err e) → Builds builder files (Err e)
   builds_none Misused h = inr (inr (options, ap setup_in b, h))
   builds_none Full h = tt
-  builds_none NotUtf8 h = absurd h
-  builds_none Limit h = absurd h
-  builds_none Invalid h = absurd h
-  builds_none (Tree error) h = absurd h
+  builds_none other h = absurd h
 
 -- the one matcher of a builder is the matcher of its options; there is none where it has not one root
 pub one_matcher : (tree : Memory) (env : Env) (options copy taken : WalkOptions) (ms : List IncrementalIgnore)

@@ -1,22 +1,32 @@
 -- What a handle's guide is asked is what it answers.
-use Rattle.std.proofs.Common.{◌≡◌, inl, inr, ℕ, List, [], ◌∷◌, Option, Some, None, Ok, Err, IsSome, map, refl, ap, subst, ◌∙◌}
+use Rattle.std.proofs.Common.{◌≡◌, inl, inr, ℕ, Bool, List, [], ◌∷◌, Option, Some, None, Ok, Err, IsSome, map, refl, ap, subst, ◌∙◌}
 use Rattle.std.specs.Str.{IsUtf8}
-use Rattle.ignore.specs.WalkWords.{IncrementalMatch}
+use Rattle.ignore.specs.WalkWords.{IncrementalMatch, query_why_of}
 use Rattle.ignore_base.specs.Text.{Bytes}
 use Rattle.ignore_dir.specs.Steps.{Reached}
-use Rattle.ignore_guide.specs.Guide.{StandsFor, decided_listed}
+use Rattle.ignore_guide.specs.Guide.{StandsFor, decided, decided_listed}
 use Rattle.ignore_guide.specs.Names.{IsAsked, IsNoPlace, IsRefused}
 use Rattle.ignore_guide.specs.Places.{entered_at}
+use Rattle.ignore_guide.specs.Reasons.{decided_why}
 use Rattle.ignore_guide.specs.declared.error.GuideError.{GuideError}
 use Rattle.ignore_guide.specs.declared.error.GuideError.TheVariants as error
 use Rattle.ignore_guide.specs.declared.guide.Guide.{Guide}
 use Rattle.ignore_guide.specs.declared.judge.Entry.{Entry}
 use Rattle.ignore_guide.specs.declared.places.Place.{Place}
-use Rattle.ignore_kept.specs.Deciding.{AsksIn, ListsIn, listed_code}
-use Rattle.ignore_kept.specs.Listings.{ListsEntries}
+use Rattle.ignore_kept.specs.Deciding.{AsksIn, ListsIn, explanation, listed_code}
+use Rattle.ignore_kept.specs.Explained.{Explained, explained_in}
+use Rattle.ignore_kept.specs.Listings.{ListsEntries, size_of}
 use Rattle.ignore_kept.specs.Stops.{guide_stop}
 use Rattle.ignore_kept.specs.declared.stopped.Stopped.{Stopped}
 use Rattle.ignore_kept.specs.declared.stopped.Stopped.TheVariants.{NotUtf8, Memory as Full, Limit, Invalid, Misused, Tree}
+use Rattle.ignore_why.specs.QueryWhy.{QueryWhy}
+use Rattle.ignore_why.specs.declared.explanation.Explanation.{Explanation}
+
+abbrev pub make : IncrementalMatch → QueryWhy → Explained
+make m w = record { answer = m; why = w }
+
+explained-is : (m n : IncrementalMatch) (w u : QueryWhy) → m ≡ n → w ≡ u → make m w ≡ make n u
+explained-is m n w u a b = ap (λ (x : IncrementalMatch). make x w) a ∙ ap (make n) b
 
 map-map : {A B C : Type 0} (f : B → C) (g : A → B) (xs : List A) → map f (map g xs) ≡ map (λ x. f (g x)) xs
 map-map f g [] = refl
@@ -43,6 +53,19 @@ module _ {A : Type 0} (answer : Bytes → Guide → ℕ → Reached → A) (plac
 
   pub asks_no_text : ¬ (IsUtf8 name) → AsksIn (answer name) place name kept (Err NotUtf8)
   asks_no_text u = subst (λ (k : Option Guide). AsksIn (answer name) place name k (Err NotUtf8)) is u
+
+-- an answer with its reason, by a size that is the one that was told
+pub explains : (place : Place) (name text : Bytes) (is_dir : Bool) (size : ℕ) (kept : Option Guide) (g : Guide) (known : Option ℕ) → Some g ≡ kept
+    → known ≡ size_of size → (e : Explanation) → text ≡ name → IsAsked g.places place text
+    → ((depth : ℕ) (at : Reached) → StandsFor g place depth at → e.answer ≡ decided g.settings g.outside depth at text is_dir known)
+    → ((depth : ℕ) (at : Reached) → StandsFor g place depth at → query_why_of e.reason ≡ decided_why g.settings g.outside depth at text is_dir known)
+    → AsksIn (explanation name is_dir size) place name kept (explained_in (Ok e))
+explains place name text is_dir size kept g known is sized e same there value why =
+    asks (λ n. explanation n is_dir size) place name text kept g is (record { answer = e.answer; why = query_why_of e.reason }) same there
+    (λ depth at s. explained-is e.answer (decided g.settings g.outside depth at text is_dir (size_of size)) (query_why_of e.reason)
+    (decided_why g.settings g.outside depth at text is_dir (size_of size))
+    (value depth at s ∙ ap (decided g.settings g.outside depth at text is_dir) sized)
+    (why depth at s ∙ ap (decided_why g.settings g.outside depth at text is_dir) sized))
 
 pub asks_none : {A : Type 0} (answer : Guide → ℕ → Reached → A) (place : Place) (name : Bytes) (kept : Option Guide) → None ≡ kept
     → AsksIn answer place name kept (Err Misused)
@@ -77,9 +100,7 @@ module _ (place : Place) (names : Bytes) (kinds sizes : List ℕ) (kept : Option
   unlisted NotUtf8 h = h
   unlisted Misused h = inr h
   unlisted Full h = tt
-  unlisted Limit h = absurd h
-  unlisted Invalid h = absurd h
-  unlisted (Tree e) h = absurd h
+  unlisted other h = absurd h
 
   pub lists_unlisted : (e : Stopped) → ListsEntries names kinds sizes (Err e) → ListsIn place names kinds sizes kept (Err e)
   lists_unlisted e h = subst (λ (k : Option Guide). ListsIn place names kinds sizes k (Err e)) is (unlisted e h)

@@ -1,7 +1,8 @@
 -- A call on a guide's handle is one on what it keeps, and one on a guide whose first root was begun.
-use Rattle.std.proofs.Common.{◌≡◌, ℕ, false, Option, Some, None, Result, Ok, Err, OnErr, is_some, inl, inr, refl, sym, ap, subst, ◌∙◌}
+use Rattle.std.proofs.Common.{◌≡◌, ℕ, false, List, Option, Some, None, Result, Ok, Err, OnErr, is_some, inl, inr, refl, sym, ap, subst, ◌∙◌}
 use Rattle.std.specs.Str.{IsUtf8}
 use Rattle.ignore.specs.Asked.{AddsIgnoreBy}
+use Rattle.ignore.specs.AskedNext.{AsksNext}
 use Rattle.ignore.specs.declared.options.WalkOptions.{WalkOptions}
 use Rattle.ignore_base.specs.Problem.{Problem, io}
 use Rattle.ignore_base.specs.Text.{Bytes, Path}
@@ -20,9 +21,10 @@ use Rattle.ignore_guide.specs.declared.hosted.Call.TheVariants as call
 use Rattle.ignore_guide.specs.declared.hosted.Step.{Step}
 use Rattle.ignore_guide.specs.declared.hosted.Step.TheVariants as step
 use Rattle.ignore_guide.specs.declared.hosted.Waiting.{Waiting}
+use Rattle.ignore_guide.specs.declared.missing.Question.{Question}
 use Rattle.ignore_guide.specs.declared.places.Place.{Place}
 use Rattle.ignore_guide.specs.declared.told.Told.{Told}
-use Rattle.ignore_kept.specs.Guides.{AddsIn, AtBegun, AtOf, Ends, Enters, Gives, GivesAt, GivesFirst, GivesIn, KeptBy, OnGuide, OnOf, Roots, RootsAt, RootsFirst, RootsIn, Steps, is_waiting, keeping, place_in, settled}
+use Rattle.ignore_kept.specs.Guides.{AddsIn, AsksOuter, AtBegun, AtOf, Ends, Enters, Gives, GivesAt, GivesFirst, GivesIn, KeptBy, OnGuide, OnOf, Roots, RootsAt, RootsFirst, RootsIn, Steps, is_waiting, keeping, place_in, settled}
 use Rattle.ignore_kept.specs.Given.{NotGiven}
 use Rattle.ignore_kept.specs.Kinds.{guided_in}
 use Rattle.ignore_kept.specs.Listings.{IsListing, ListsNames}
@@ -119,9 +121,7 @@ enters_unlisted parent name names b Full idle h = (
   record { places = λ place depth at s. s; gone = λ place g. g; same = record { settings = refl; outside = refl } },
   ap (λ (w : Option Waiting). let x : Begun = record b { waits = w } in x) (none-waits b.waits idle),
 )
-enters_unlisted parent name names b Limit idle h = absurd h
-enters_unlisted parent name names b Invalid idle h = absurd h
-enters_unlisted parent name names b (Tree e) idle h = absurd h
+enters_unlisted parent name names b other idle h = absurd h
 
 -- an error of the guide as the reason why a call that waited has ended
 pub gives_not : (kind : ℕ) (bytes : Bytes) (fault : ℕ) (b after : Begun) (w : Waiting) (e : GuideError) → b.waits ≡ Some w
@@ -136,20 +136,14 @@ pub gives_none : (kind : ℕ) (bytes : Bytes) (fault : ℕ) (b : Begun) (w : Wai
     → NotGiven w.question.wanted kind bytes fault e → GivesIn kind bytes fault b (Err e) b
 gives_none kind bytes fault b w NotUtf8 is h = (refl, (w, is, h))
 gives_none kind bytes fault b w Misused is h = inl (refl, inr h)
-gives_none kind bytes fault b w Full is h = absurd h
-gives_none kind bytes fault b w Limit is h = absurd h
-gives_none kind bytes fault b w Invalid is h = absurd h
-gives_none kind bytes fault b w (Tree e) is h = absurd h
+gives_none kind bytes fault b w other is h = absurd h
 
 -- why the first root goes on waiting
 pub gives_first_none : (kind : ℕ) (bytes : Bytes) (fault : ℕ) (reading : Reading) (old : Guided) (e : Stopped)
     → NotGiven reading.question.wanted kind bytes fault e → GivesFirst kind bytes fault reading old (Err e) old
 gives_first_none kind bytes fault reading old NotUtf8 h = (refl, h)
 gives_first_none kind bytes fault reading old Misused h = (refl, h)
-gives_first_none kind bytes fault reading old Full h = absurd h
-gives_first_none kind bytes fault reading old Limit h = absurd h
-gives_first_none kind bytes fault reading old Invalid h = absurd h
-gives_first_none kind bytes fault reading old (Tree e) h = absurd h
+gives_first_none kind bytes fault reading old other h = absurd h
 
 pub gives_fresh : (kind : ℕ) (bytes : Bytes) (fault : ℕ) (old new : Guided) → old.stage ≡ stage.Fresh → new ≡ old
     → Gives kind bytes fault old (Err Misused) new
@@ -173,6 +167,17 @@ not_begun_fresh P old new is same = subst (λ (s : Stage). AtOf P s old (Err Mis
 pub not_begun_reading : {A : Type 0} (P : Begun → Result A Stopped → Begun → Type 0) (old : Guided) (reading : Reading) (new : Guided)
     → old.stage ≡ stage.Reading reading → new ≡ old → AtBegun P old (Err Misused) new
 not_begun_reading P old reading new is same = subst (λ (s : Stage). AtOf P s old (Err Misused) new) (sym is) (refl, same)
+
+-- what is asked next, by the paths of a guide
+pub asks_outer : (o : Guided) (told : Told) (paths : List Path) (q found : Option Question) → paths ≡ o.paths → q ≡ found
+    → AsksNext told o.env o.options paths q → AsksOuter o told found
+asks_outer o told paths q found same is h =
+    subst (λ (r : Option Question). AsksOuter o told r) is (subst (λ (ps : List Path). AsksNext told o.env o.options ps q) same h)
+
+-- nothing more is
+pub asks_no_more : (o : Guided) (told : Told) (paths : List Path) (q : Option Question) → paths ≡ o.paths → q ≡ None
+    → AsksNext told o.env o.options paths q → AsksOuter o told None
+asks_no_more o told paths q same is h = asks_outer o told paths q None same is h
 
 -- Files of rules that are added.
 

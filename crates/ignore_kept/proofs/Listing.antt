@@ -124,10 +124,7 @@ module _ (builder files : Kept) (options : Setup) (told : Memory) (taken : WalkO
   walks_none Limit h =
       (options, told, ap setup_in b, ap tree_in t, subst (λ (o : WalkOptions). IsListOf told options.env o (Err Limit)) same h)
   walks_none Full h = tt
-  walks_none NotUtf8 h = absurd h
-  walks_none Invalid h = absurd h
-  walks_none Misused h = absurd h
-  walks_none (Tree error) h = absurd h
+  walks_none other h = absurd h
 
 -- the next item of a walk is that of what the handle keeps
 pub nexts : (room : ℕ) (kept : Kept) (old : Walked) (code : ℕ) (entry : WalkEntry) (text : Bytes) (new : Walked) → kept ≡ keeping old

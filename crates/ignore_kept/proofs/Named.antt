@@ -41,9 +41,7 @@ pub unlisted : (text : Bytes) (kinds sizes : List ℕ) (e : Stopped) → ListsNa
 unlisted text kinds sizes NotUtf8 h = h
 unlisted text kinds sizes Misused h = λ names are. absurd (h (names, are))
 unlisted text kinds sizes Full h = tt
-unlisted text kinds sizes Limit h = absurd h
-unlisted text kinds sizes Invalid h = absurd h
-unlisted text kinds sizes (Tree e) h = absurd h
+unlisted text kinds sizes other h = absurd h
 
 pub not_as_many : (text : Bytes) (kinds sizes : List ℕ) (names : List Bytes) → AreNames text names → ¬ (AreAsMany names kinds sizes)
     → ListsEntries text kinds sizes (Err Misused)

@@ -71,10 +71,7 @@ changed : (kept : Kept) (change : Change) (path : Path) (old : Memory) (r : Resu
 changed kept change path old (Ok done) new is h = (old, new, ap tree_in is, h, refl)
 changed kept change path old (Err (Tree error)) new is h = (old, ap tree_in is, ap keeping h.0 ∙ sym is, h.1)
 changed kept change path old (Err NotUtf8) new is h = (ap keeping h.0 ∙ sym is, inr h.1)
-changed kept change path old (Err Full) new is h = absurd h
-changed kept change path old (Err Limit) new is h = absurd h
-changed kept change path old (Err Invalid) new is h = absurd h
-changed kept change path old (Err Misused) new is h = absurd h
+changed kept change path old (Err other) new is h = absurd h
 
 -- the change of a tree at a text that is the path
 pub changes : (kept : Kept) (change : Change) (path text : Path) (old : Memory) (r : Result (Unit {0}) Stopped) (new : Memory)

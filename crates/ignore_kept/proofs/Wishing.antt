@@ -57,10 +57,7 @@ blamed wish old mid problem (Err Invalid) new same (inr faulty) h =
 blamed wish old mid problem (Err Invalid) new same (inl m) h =
     absurd (not_memory problem h.0 m)
 blamed wish old mid problem (Ok done) new same why h = absurd h
-blamed wish old mid problem (Err NotUtf8) new same why h = absurd h
-blamed wish old mid problem (Err Misused) new same why h = absurd h
-blamed wish old mid problem (Err Limit) new same why h = absurd h
-blamed wish old mid problem (Err (Tree error)) new same why h = absurd h
+blamed wish old mid problem (Err other) new same why h = absurd h
 
 -- a glob at a text is added to those that were begun
 pub glob_added : (glob : Bor Bytes) (text : Bytes) (old : Setup) (before after : Building) → old.globs ≡ Some before

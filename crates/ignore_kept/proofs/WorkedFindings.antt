@@ -6,8 +6,9 @@ use Rattle.ignore_every.specs.declared.said.Counted.TheVariants as counted
 use Rattle.ignore_every.specs.declared.said.Verdict.TheVariants as verdict
 use Rattle.ignore_kept.specs.Comparing.{code_given, counted_by, difference_given, no_difference, verdict_code}
 use Rattle.ignore_kept.specs.Findings.{FindingParts, alone, is_dead, overruled_parts, texts_of, told_as}
-use Rattle.ignore_kept.specs.Judging.{unjudged_by, unjudged_code}
-use Rattle.ignore_kept.specs.declared.unjudged.Unjudged.TheVariants.{TooLarge}
+use Rattle.ignore_kept.specs.Judging.{search_stop}
+use Rattle.ignore_kept.specs.Stops.{stop_code}
+use Rattle.ignore_kept.specs.declared.stopped.Stopped.TheVariants.{TooLarge}
 
 -- a rule that the rules 3 and 5 overrule is told so, with their number; one that applies to nothing has
 -- another kind
@@ -33,8 +34,8 @@ pub same : (code_given (Ok Same) ≡ 0) × (code_given (Err TooLarge) ≡ 17) ×
 same = (refl, refl, refl)
 
 -- why a search has no result
-pub reasons : (unjudged_code (unjudged_by every.TooLarge) ≡ 17) × (unjudged_code (unjudged_by every.Rejected) ≡ 7)
-    × (unjudged_code (unjudged_by every.Memory) ≡ 5)
+pub reasons : (stop_code (search_stop every.TooLarge) ≡ 17) × (stop_code (search_stop every.Rejected) ≡ 7)
+    × (stop_code (search_stop every.Memory) ≡ 5)
 reasons = (refl, refl, refl)
 
 -- verdicts have the numbers of matches, and which of them count

@@ -18,7 +18,6 @@ use Rattle.ignore_kept.specs.declared.ask.Manner.TheVariants.{Alone, WithParents
 use Rattle.ignore_kept.specs.Walking.{TellsNext, end_of, text_told}
 use Rattle.ignore_kept.specs.Wishes.{IsEarly}
 use Rattle.ignore_kept.specs.declared.kept.Kept.TheVariants as keeps
-use Rattle.ignore_kept.specs.declared.refused.Refused.TheVariants as refused
 use Rattle.ignore_kept.specs.declared.setup.Setup.{Setup}
 use Rattle.ignore_kept.specs.declared.stopped.Stopped.TheVariants as stopped
 use Rattle.ignore_kept.specs.declared.walked.WalkEntry.{WalkEntry}
@@ -43,13 +42,13 @@ withheld room old new item entry text (inr (inr none)) = absurd (omega (arith, n
 
 -- rules aren't refused as misused, nor as outside where a path is asked about alone or as git asks; and
 -- with its parents only a path below the root has an answer
-pub not_misused : (rules : Ruleset) (manner : Manner) (is_dir : Bool) (path : Path) → ¬ Asks (keeps.Rules rules) manner path is_dir (Err refused.Misused)
+pub not_misused : (rules : Ruleset) (manner : Manner) (is_dir : Bool) (path : Path) → ¬ Asks (keeps.Rules rules) manner path is_dir (Err stopped.Misused)
 not_misused rules manner is_dir path h = cc h
 
-pub not_outside : (rules : Ruleset) (is_dir : Bool) (path : Path) → ¬ Asks (keeps.Rules rules) Alone path is_dir (Err refused.Outside)
+pub not_outside : (rules : Ruleset) (is_dir : Bool) (path : Path) → ¬ Asks (keeps.Rules rules) Alone path is_dir (Err stopped.Outside)
 not_outside rules is_dir path (others, is, manner, outside) = cc manner
 
-pub not_outside_as_git : (rules : Ruleset) (is_dir : Bool) (path : Path) → ¬ Asks (keeps.Rules rules) AsGit path is_dir (Err refused.Outside)
+pub not_outside_as_git : (rules : Ruleset) (is_dir : Bool) (path : Path) → ¬ Asks (keeps.Rules rules) AsGit path is_dir (Err stopped.Outside)
 not_outside_as_git rules is_dir path (others, is, manner, outside) = cc manner
 
 pub only_below : (rules : Ruleset) (is_dir : Bool) (path : Path) (found : Match Rule)

@@ -14,10 +14,10 @@ use Rattle.ignore_kept.specs.declared.ask.Manner.{Manner}
 use Rattle.ignore_kept.specs.declared.ask.Manner.TheVariants.{Alone, WithParents, AsGit}
 use Rattle.ignore_kept.specs.declared.kept.Kept.{Kept}
 use Rattle.ignore_kept.specs.declared.kept.Kept.TheVariants as keeps
-use Rattle.ignore_kept.specs.declared.refused.Refused.{Refused}
-use Rattle.ignore_kept.specs.declared.refused.Refused.TheVariants.{NotUtf8, Memory, Line, Misused, Outside}
 use Rattle.ignore_kept.specs.declared.rule.Counts.{Counts}
 use Rattle.ignore_kept.specs.declared.rule.Reason.{Reason}
+use Rattle.ignore_kept.specs.declared.stopped.Stopped.{Stopped}
+use Rattle.ignore_kept.specs.declared.stopped.Stopped.TheVariants.{NotUtf8, Memory, Misused, Outside}
 
 -- the matcher that a handle keeps, if it keeps one
 abbrev pub rules_of : Kept → Option Ruleset
@@ -43,7 +43,7 @@ said rules WithParents path is_dir = answer_with_parents rules.root rules.rules 
 said rules AsGit path is_dir = answer_as_git rules path is_dir
 
 -- asking a handle in a manner about a path gives this match, or this reason why not
-abbrev pub Asks : Kept → Manner → Bytes → Bool → Result (Match Rule) Refused → Type 0
+abbrev pub Asks : Kept → Manner → Bytes → Bool → Result (Match Rule) Stopped → Type 0
 Asks kept manner path is_dir (Ok found) =
     (rules : Ruleset) × (rules_of kept ≡ Some rules) × (manner ≡ WithParents → is_under_root rules path ≡ true)
     × (found ≡ said rules manner path is_dir)
@@ -52,11 +52,11 @@ Asks kept manner path is_dir (Err Memory) = Unit {0}
 Asks kept manner path is_dir (Err Misused) = rules_of kept ≡ None
 Asks kept manner path is_dir (Err Outside) =
     (rules : Ruleset) × (rules_of kept ≡ Some rules) × (manner ≡ WithParents) × (is_under_root rules path ≡ false)
-Asks kept manner path is_dir (Err Line) = ⊥
+Asks kept manner path is_dir (Err other) = ⊥
 
 -- asking gives this number
 abbrev pub AsksCode : Kept → Manner → Bytes → Bool → ℕ → Type 0
-AsksCode kept manner path is_dir code = (given : Result (Match Rule) Refused) × Asks kept manner path is_dir given × (code ≡ answer_code given)
+AsksCode kept manner path is_dir code = (given : Result (Match Rule) Stopped) × Asks kept manner path is_dir given × (code ≡ answer_code given)
 
 -- the source of a rule; empty where it has none
 abbrev pub source_text : Option Path → Bytes
@@ -90,9 +90,9 @@ match_reason NoMatch = no_reason
 match_reason (Ignore rule) = reason_of rule
 match_reason (Whitelist rule) = reason_of rule
 
-abbrev pub reason_given : Result (Match Rule) Refused → Reason
+abbrev pub reason_given : Result (Match Rule) Stopped → Reason
 reason_given (Ok found) = match_reason found
-reason_given (Err refused) = no_reason
+reason_given (Err stopped) = no_reason
 
 -- the texts of a rule: its source, its line, its glob
 abbrev pub rule_text : Rule → Bytes
@@ -103,14 +103,14 @@ match_text NoMatch = []
 match_text (Ignore rule) = rule_text rule
 match_text (Whitelist rule) = rule_text rule
 
-abbrev pub text_given : Result (Match Rule) Refused → Bytes
+abbrev pub text_given : Result (Match Rule) Stopped → Bytes
 text_given (Ok found) = match_text found
-text_given (Err refused) = []
+text_given (Err stopped) = []
 
 -- asking gives this number, this reason and these texts
 abbrev pub Explains : Kept → Manner → Bytes → Bool → ℕ → Reason → Bytes → Type 0
 Explains kept manner path is_dir code reason text =
-    (given : Result (Match Rule) Refused) × Asks kept manner path is_dir given × (code ≡ answer_code given)
+    (given : Result (Match Rule) Stopped) × Asks kept manner path is_dir given × (code ≡ answer_code given)
     × (reason ≡ reason_given given) × (text ≡ text_given given)
 
 -- the rule at an index, with what it does; none where there are no more rules than that
@@ -119,18 +119,16 @@ listed None = NoMatch
 listed (Some rule) = decision_of rule
 
 -- asking a handle for the rule at an index gives this, or this reason why not
-abbrev pub Lists : Kept → ℕ → Result (Match Rule) Refused → Type 0
+abbrev pub Lists : Kept → ℕ → Result (Match Rule) Stopped → Type 0
 Lists kept index (Ok found) = (rules : Ruleset) × (rules_of kept ≡ Some rules) × (found ≡ listed (slice_get rules.rules index))
 Lists kept index (Err Memory) = Unit {0}
 Lists kept index (Err Misused) = rules_of kept ≡ None
-Lists kept index (Err NotUtf8) = ⊥
-Lists kept index (Err Outside) = ⊥
-Lists kept index (Err Line) = ⊥
+Lists kept index (Err other) = ⊥
 
 -- asking gives this number, these parts of the rule and these texts
 abbrev pub TellsRule : Kept → ℕ → ℕ → Reason → Bytes → Type 0
 TellsRule kept index code reason text =
-    (given : Result (Match Rule) Refused) × Lists kept index given × (code ≡ answer_code given) × (reason ≡ reason_given given)
+    (given : Result (Match Rule) Stopped) × Lists kept index given × (code ≡ answer_code given) × (reason ≡ reason_given given)
     × (text ≡ text_given given)
 
 -- how many rules ignore, and how many whitelist

@@ -11,11 +11,11 @@ use Rattle.ignore_every.specs.declared.said.Verdict.{Verdict}
 use Rattle.ignore_every.specs.declared.said.Verdict.TheVariants as V
 use Rattle.ignore_rules.specs.Rules.{Ruleset}
 use Rattle.ignore_kept.specs.Asks.{KeepsRules, number_of, rules_of}
-use Rattle.ignore_kept.specs.Judging.{unjudged_code}
+use Rattle.ignore_kept.specs.Stops.{stop_code}
 use Rattle.ignore_kept.specs.declared.compared.DifferenceParts.{DifferenceParts}
 use Rattle.ignore_kept.specs.declared.kept.Kept.{Kept}
-use Rattle.ignore_kept.specs.declared.unjudged.Unjudged.{Unjudged}
-use Rattle.ignore_kept.specs.declared.unjudged.Unjudged.TheVariants.{Memory, Rejected, Misused, TooLarge}
+use Rattle.ignore_kept.specs.declared.stopped.Stopped.{Stopped}
+use Rattle.ignore_kept.specs.declared.stopped.Stopped.TheVariants.{Memory, Invalid, Misused, TooLarge}
 
 -- which verdicts count as the same: each for itself, or none and whitelist
 abbrev pub counted_by : Bool → Counted
@@ -24,14 +24,15 @@ counted_by true = C.Ignored
 
 -- comparing the rules of two handles gives that they say the same, or a shortest question at which
 -- they differ, or says why not
-abbrev pub Compares : Kept → Kept → Bool → Result Comparison Unjudged → Type 0
+abbrev pub Compares : Kept → Kept → Bool → Result Comparison Stopped → Type 0
 Compares old new only_ignored (Ok comparison) =
     (before after : Ruleset) × (rules_of old ≡ Some before) × (rules_of new ≡ Some after)
     × IsComparison (counted_by only_ignored) before.rules after.rules comparison
 Compares old new only_ignored (Err Misused) = (rules_of old ≡ None) ⊎ (rules_of new ≡ None)
 Compares old new only_ignored (Err Memory) = Unit {0}
-Compares old new only_ignored (Err Rejected) = KeepsRules old × KeepsRules new
+Compares old new only_ignored (Err Invalid) = KeepsRules old × KeepsRules new
 Compares old new only_ignored (Err TooLarge) = KeepsRules old × KeepsRules new
+Compares old new only_ignored (Err other) = ⊥
 
 -- how a verdict is numbered
 abbrev pub verdict_code : Verdict → ℕ
@@ -57,27 +58,27 @@ abbrev pub no_difference : DifferenceParts
 no_difference = record { before = 0; after = 0; path = 0; before_rule = 0; after_rule = 0; is_dir = false }
 
 -- that two lists say the same is 0, and that they differ 1
-abbrev pub code_given : Result Comparison Unjudged → ℕ
+abbrev pub code_given : Result Comparison Stopped → ℕ
 code_given (Ok Same) = 0
 code_given (Ok (Differ d)) = 1
-code_given (Err unjudged) = unjudged_code unjudged
+code_given (Err stopped) = stop_code stopped
 
-abbrev pub difference_given : Result Comparison Unjudged → DifferenceParts
+abbrev pub difference_given : Result Comparison Stopped → DifferenceParts
 difference_given (Ok Same) = no_difference
 difference_given (Ok (Differ d)) = difference_parts d
-difference_given (Err unjudged) = no_difference
+difference_given (Err stopped) = no_difference
 
-abbrev pub text_given : Result Comparison Unjudged → Bytes
+abbrev pub text_given : Result Comparison Stopped → Bytes
 text_given (Ok Same) = []
 text_given (Ok (Differ d)) = string_bytes d.question.path
-text_given (Err unjudged) = []
+text_given (Err stopped) = []
 
 -- a comparison is told so
-abbrev pub TellsComparison : Result Comparison Unjudged → ℕ → DifferenceParts → Bytes → Type 0
+abbrev pub TellsComparison : Result Comparison Stopped → ℕ → DifferenceParts → Bytes → Type 0
 TellsComparison given code difference text =
     (code ≡ code_given given) × (difference ≡ difference_given given) × (text ≡ text_given given)
 
 -- comparing the rules of two handles gives this number, this difference and this path
 abbrev pub Compared : Kept → Kept → Bool → ℕ → DifferenceParts → Bytes → Type 0
 Compared old new only_ignored code difference text =
-    (given : Result Comparison Unjudged) × Compares old new only_ignored given × TellsComparison given code difference text
+    (given : Result Comparison Stopped) × Compares old new only_ignored given × TellsComparison given code difference text

@@ -3,22 +3,19 @@ use Rattle.std.specs.Prelude.{◌≡◌, ◌⊎◌, ◌+◌, ℕ, Bool, false, L
 use Rattle.std.specs.Str.{IsUtf8}
 use Rattle.ignore.specs.WalkWords.{IncrementalMatch}
 use Rattle.ignore_base.specs.Text.{Bytes}
-use Rattle.ignore_base.specs.declared.match_result.Match.{Match}
-use Rattle.ignore_base.specs.declared.match_result.Match.TheVariants.{Ignore, Whitelist}
-use Rattle.ignore_base.specs.declared.match_result.Match.TheVariants.{None as NoMatch}
-use Rattle.ignore_dir.specs.Steps.{Reached, entry}
-use Rattle.ignore_guide.specs.Guide.{StandsFor, cause_at, decided, decided_listed}
+use Rattle.ignore_dir.specs.Steps.{Reached}
+use Rattle.ignore_guide.specs.Guide.{StandsFor, decided, decided_listed}
 use Rattle.ignore_guide.specs.Names.{IsAsked, is_name}
 use Rattle.ignore_guide.specs.Places.{entered_at}
+use Rattle.ignore_guide.specs.Reasons.{decided_why}
 use Rattle.ignore_guide.specs.declared.guide.Guide.{Guide}
 use Rattle.ignore_guide.specs.declared.judge.Entry.{Entry}
 use Rattle.ignore_guide.specs.declared.places.Place.{Place}
-use Rattle.ignore_kept.specs.Explained.{Parts, alone, said_parts, texts_of, told_as}
+use Rattle.ignore_kept.specs.Explained.{Explained, TellsReason}
 use Rattle.ignore_kept.specs.Kinds.{guided_in}
 use Rattle.ignore_kept.specs.Listings.{ListsEntries, size_of}
 use Rattle.ignore_kept.specs.Matching.{found_in, match_code, verdict_code}
 use Rattle.ignore_kept.specs.Rooms.{put_in}
-use Rattle.ignore_kept.specs.Stops.{stop_code}
 use Rattle.ignore_kept.specs.declared.asker.Found.{Found}
 use Rattle.ignore_kept.specs.declared.explained.Why.{Why}
 use Rattle.ignore_kept.specs.declared.guided.Guided.{Guided}
@@ -27,7 +24,6 @@ use Rattle.ignore_kept.specs.declared.guided.Stage.TheVariants as stage
 use Rattle.ignore_kept.specs.declared.kept.Kept.{Kept}
 use Rattle.ignore_kept.specs.declared.stopped.Stopped.{Stopped}
 use Rattle.ignore_kept.specs.declared.stopped.Stopped.TheVariants.{NotUtf8, Memory as Full, Limit, Invalid, Misused, Tree}
-use Rattle.ignore_why.specs.Cited.{Cited}
 
 -- the guide at a stage, once its first root was begun
 abbrev pub guide_at : Stage → Option Guide
@@ -51,9 +47,7 @@ AsksIn answer place name (Some g) (Ok found) =
 AsksIn answer place name (Some g) (Err NotUtf8) = ¬ (IsUtf8 name)
 AsksIn answer place name (Some g) (Err Misused) = (entered_at g.places place ≡ None) ⊎ (is_name name ≡ false)
 AsksIn answer place name (Some g) (Err Full) = Unit {0}
-AsksIn answer place name (Some g) (Err Limit) = ⊥
-AsksIn answer place name (Some g) (Err Invalid) = ⊥
-AsksIn answer place name (Some g) (Err (Tree error)) = ⊥
+AsksIn answer place name (Some g) (Err other) = ⊥
 
 -- what becomes of an entry, where it stands
 abbrev pub decision : Bytes → Bool → ℕ → Guide → ℕ → Reached → IncrementalMatch
@@ -92,9 +86,7 @@ ListsIn place names kinds sizes (Some g) (Err NotUtf8) = ¬ (IsUtf8 names)
 ListsIn place names kinds sizes (Some g) (Err Misused) =
     (entered_at g.places place ≡ None) ⊎ ListsEntries names kinds sizes (Err Misused)
 ListsIn place names kinds sizes (Some g) (Err Full) = Unit {0}
-ListsIn place names kinds sizes (Some g) (Err Limit) = ⊥
-ListsIn place names kinds sizes (Some g) (Err Invalid) = ⊥
-ListsIn place names kinds sizes (Some g) (Err (Tree error)) = ⊥
+ListsIn place names kinds sizes (Some g) (Err other) = ⊥
 
 abbrev pub DecidesAll : Place → Bytes → List ℕ → List ℕ → Kept → Result (List ℕ) Stopped → Type 0
 DecidesAll place names kinds sizes kept given = ListsIn place names kinds sizes (guide_in kept) given
@@ -104,33 +96,19 @@ abbrev pub codes_put : Result (List ℕ) Stopped → List ℕ → List ℕ
 codes_put (Ok codes) room = put_in codes room
 codes_put (Err stopped) room = room
 
--- what decides on an entry, where it stands
-abbrev pub reason : Bytes → Bool → Guide → ℕ → Reached → Match Cited
-reason name is_dir g depth at = cause_at g.settings g.outside (entry at name) is_dir
+-- what becomes of an entry and why, where it stands
+abbrev pub explanation : Bytes → Bool → ℕ → Guide → ℕ → Reached → Explained
+explanation name is_dir size g depth at =
+    record {
+      answer = decision name is_dir size g depth at;
+      why = decided_why g.settings g.outside depth at name is_dir (size_of size);
+    }
 
--- asking a handle's guide what decides on an entry
-abbrev pub Reasons : Place → Bytes → Bool → Kept → Result (Match Cited) Stopped → Type 0
-Reasons place name is_dir kept given = AsksIn (reason name is_dir) place name (guide_in kept) given
-
--- how what decides is numbered
-abbrev pub cause_code : Match Cited → ℕ
-cause_code NoMatch = 1
-cause_code (Ignore cause) = 2
-cause_code (Whitelist cause) = 3
-
-abbrev pub reason_code : Result (Match Cited) Stopped → ℕ
-reason_code (Ok found) = cause_code found
-reason_code (Err stopped) = stop_code stopped
-
-abbrev pub parts_in : Result (Match Cited) Stopped → Parts
-parts_in (Ok found) = said_parts found
-parts_in (Err stopped) = alone 0
-
--- what decides is told so
-abbrev pub TellsCause : Result (Match Cited) Stopped → ℕ → Why → Bytes → Type 0
-TellsCause given code why text = (code ≡ reason_code given) × (why ≡ told_as (parts_in given)) × (text ≡ texts_of (parts_in given))
+-- asking a handle's guide what becomes of an entry and why
+abbrev pub Reasons : Place → Bytes → Bool → ℕ → Kept → Result Explained Stopped → Type 0
+Reasons place name is_dir size kept given = AsksIn (explanation name is_dir size) place name (guide_in kept) given
 
 -- the same, by what C is told
-abbrev pub ReasonsTold : Place → Bytes → Bool → Kept → ℕ → Why → Bytes → Type 0
-ReasonsTold place name is_dir kept code why text =
-    (given : Result (Match Cited) Stopped) × Reasons place name is_dir kept given × TellsCause given code why text
+abbrev pub ReasonsTold : Place → Bytes → Bool → ℕ → Kept → ℕ → Found → Why → Bytes → Type 0
+ReasonsTold place name is_dir size kept code found why text =
+    (given : Result Explained Stopped) × Reasons place name is_dir size kept given × TellsReason given code found why text

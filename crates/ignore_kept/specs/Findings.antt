@@ -8,14 +8,14 @@ use Rattle.ignore_every.specs.declared.findings.Finding.{Finding}
 use Rattle.ignore_every.specs.declared.findings.Finding.TheVariants.{Live, DeadByFolders, Overruled, Unreached}
 use Rattle.ignore_rules.specs.Rules.{Rule, Ruleset}
 use Rattle.ignore_kept.specs.Asks.{KeepsRules, rules_of}
-use Rattle.ignore_kept.specs.Judging.{unjudged_code}
+use Rattle.ignore_kept.specs.Stops.{stop_code}
 use Rattle.ignore_kept.specs.declared.findings.Dead.{Dead}
 use Rattle.ignore_kept.specs.declared.findings.Findings.{Findings}
 use Rattle.ignore_kept.specs.declared.findings.Parts.{Parts}
 use Rattle.ignore_kept.specs.declared.kept.Kept.{Kept}
 use Rattle.ignore_kept.specs.declared.kept.Kept.TheVariants as keeps
-use Rattle.ignore_kept.specs.declared.unjudged.Unjudged.{Unjudged}
-use Rattle.ignore_kept.specs.declared.unjudged.Unjudged.TheVariants.{Memory, Rejected, Misused, TooLarge}
+use Rattle.ignore_kept.specs.declared.stopped.Stopped.{Stopped}
+use Rattle.ignore_kept.specs.declared.stopped.Stopped.TheVariants.{Memory, Invalid, Misused, TooLarge}
 
 -- these indices, which grow, are those of the rules that decide on no question which the rules reach
 pub record AreDead (rules : List Rule) (dead : List ℕ) : Type 0 where
@@ -29,13 +29,14 @@ pub record AreFindings (rules : List Rule) (found : Findings) : Type 0 where
   pub dead : AreDead rules found.dead.items
 
 -- looking for dead rules gives what a handle keeps, or says why not
-abbrev pub Finds : Kept → Result Kept Unjudged → Type 0
+abbrev pub Finds : Kept → Result Kept Stopped → Type 0
 Finds old (Ok kept) =
     (rules : Ruleset) × (found : Findings) × (rules_of old ≡ Some rules) × AreFindings rules.rules found × (kept ≡ keeps.Findings found)
 Finds old (Err Misused) = rules_of old ≡ None
 Finds old (Err Memory) = Unit {0}
-Finds old (Err Rejected) = KeepsRules old
+Finds old (Err Invalid) = KeepsRules old
 Finds old (Err TooLarge) = KeepsRules old
+Finds old (Err other) = ⊥
 
 -- another thing was found of a rule than a question on which it decides and that is reached
 abbrev pub is_dead : Option Finding → Bool
@@ -124,7 +125,7 @@ abbrev pub TellsRule : ℕ → Option Finding → ℕ → Dead → Bytes → Typ
 TellsRule rule None code dead text = (code ≡ 1) × (dead ≡ no_dead) × (text ≡ [])
 TellsRule rule (Some finding) code dead text =
     ((code ≡ 0) × (dead ≡ told_as rule (parts_of finding)) × (text ≡ texts_of (parts_of finding)))
-    ⊎ ((code ≡ unjudged_code Memory) × (dead ≡ no_dead) × (text ≡ []))
+    ⊎ ((code ≡ stop_code Memory) × (dead ≡ no_dead) × (text ≡ []))
 
 -- the same of the dead rule with this index, if there is one
 abbrev pub TellsDead : List Finding → Option ℕ → ℕ → Dead → Bytes → Type 0
@@ -133,7 +134,7 @@ TellsDead findings (Some rule) code dead text = TellsRule rule (slice_get findin
 
 -- the same of the dead rule at an index of a handle's findings
 abbrev pub TellsFinding : Option Findings → ℕ → ℕ → Dead → Bytes → Type 0
-TellsFinding None index code dead text = (code ≡ unjudged_code Misused) × (dead ≡ no_dead) × (text ≡ [])
+TellsFinding None index code dead text = (code ≡ stop_code Misused) × (dead ≡ no_dead) × (text ≡ [])
 TellsFinding (Some found) index code dead text =
     TellsDead found.all.items (slice_get found.dead.items index) code dead text
 
@@ -162,7 +163,7 @@ TellsIndex None code rule = (code ≡ 1) × (rule ≡ 0)
 TellsIndex (Some other) code rule = (code ≡ 0) × (rule ≡ other)
 
 abbrev pub TellsOverruling : Option Findings → ℕ → ℕ → ℕ → ℕ → Type 0
-TellsOverruling None index number code rule = (code ≡ unjudged_code Misused) × (rule ≡ 0)
+TellsOverruling None index number code rule = (code ≡ stop_code Misused) × (rule ≡ 0)
 TellsOverruling (Some found) index number code rule = TellsIndex (overruling_at found index number) code rule
 
 -- what is told of a dead rule is so: it decides on no question that is reached, and what is told is a

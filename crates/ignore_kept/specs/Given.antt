@@ -77,7 +77,4 @@ IsFaultAt number (Some fault) = fault_number fault ≡ number
 abbrev pub NotGiven : Wanted → ℕ → Bytes → ℕ → Stopped → Type 0
 NotGiven asked kind bytes fault NotUtf8 = (asked ≡ wanted.Canonical) × ¬ (IsUtf8 bytes)
 NotGiven asked kind bytes fault Misused = (IsNoKind kind) ⊎ (IsNoFault fault)
-NotGiven asked kind bytes fault Full = ⊥
-NotGiven asked kind bytes fault Limit = ⊥
-NotGiven asked kind bytes fault Invalid = ⊥
-NotGiven asked kind bytes fault (Tree error) = ⊥
+NotGiven asked kind bytes fault other = ⊥

@@ -2,6 +2,7 @@
 use Rattle.std.specs.Prelude.{◌≡◌, ◌≢◌, ◌⊎◌, ℕ, Bool, true, false, List, [], ◌∷◌, ◌++◌, Option, Some, None, Result, Ok, Err, is_some, option_map}
 use Rattle.std.specs.Str.{IsUtf8}
 use Rattle.ignore.specs.Asked.{AddsIgnoreBy, IsOutsideBy, base_dir}
+use Rattle.ignore.specs.AskedNext.{AsksNext}
 use Rattle.ignore.specs.declared.options.WalkOptions.{WalkOptions}
 use Rattle.ignore_base.specs.Problem.{Problem, io, problem_of}
 use Rattle.ignore_base.specs.Text.{Bytes, Path}
@@ -50,17 +51,14 @@ keeping guided = keeps.Guide guided
 
 -- a guide by the settings of a builder: nothing is read, and no root was begun
 abbrev pub fresh : Setup → Guided
-fresh setup = record { options = setup.options; env = setup.env; paths = []; stage = stage.Fresh }
+fresh setup = record { options = setup.options; env = setup.env; paths = setup.paths; stage = stage.Fresh }
 
 -- making the guide of a builder's handle gives what a handle keeps, or says why not
 abbrev pub Starts : Kept → Result Kept Stopped → Type 0
 Starts builder (Ok kept) = (setup : Setup) × (setup_in builder ≡ Some setup) × (kept ≡ keeping (fresh setup))
 Starts builder (Err Misused) = setup_in builder ≡ None
 Starts builder (Err Full) = Unit {0}
-Starts builder (Err NotUtf8) = ⊥
-Starts builder (Err Limit) = ⊥
-Starts builder (Err Invalid) = ⊥
-Starts builder (Err (Tree error)) = ⊥
+Starts builder (Err other) = ⊥
 
 -- a call on a guide's handle does this to what the handle keeps; on another it does nothing
 abbrev pub OnOf : {A : Type 0} → (Guided → Result A Stopped → Guided → Type 0) → Option Guided → Kept → Result A Stopped → Kept → Type 0
@@ -78,22 +76,6 @@ AtOf P (stage.Begun before) old given new = (after : Begun) × (new ≡ record o
 
 abbrev pub AtBegun : {A : Type 0} → (Begun → Result A Stopped → Begun → Type 0) → Guided → Result A Stopped → Guided → Type 0
 AtBegun P old given new = AtOf P old.stage old given new
-
--- no root was begun
-abbrev pub is_fresh : Stage → Bool
-is_fresh stage.Fresh = true
-is_fresh (stage.Reading reading) = false
-is_fresh (stage.Begun begun) = false
-
--- a file of rules was added, to be read with the first root; or that has no place any more
-abbrev pub AddsPath : Bytes → Guided → Result (Unit {0}) Stopped → Guided → Type 0
-AddsPath path old (Ok done) new = (is_fresh old.stage ≡ true) × (new ≡ record old { paths = old.paths ++ path ∷ [] })
-AddsPath path old (Err NotUtf8) new = (new ≡ old) × ¬ (IsUtf8 path)
-AddsPath path old (Err Misused) new = (new ≡ old) × (is_fresh old.stage ≡ false)
-AddsPath path old (Err Full) new = new ≡ old
-AddsPath path old (Err Limit) new = ⊥
-AddsPath path old (Err Invalid) new = ⊥
-AddsPath path old (Err (Tree error)) new = ⊥
 
 -- The question of the call that waits.
 
@@ -198,34 +180,31 @@ pub record IsBegun (told : Told) (o : Guided) (b : Begun) : Type 0 where
   pub front : b.front ≡ None
   pub problem : b.problem ≡ None
 
--- the first root goes on, by what was told of the rules from outside: it waits for more; or these were
--- read, and the root was begun
+-- a host that told this is asked next for the rules from outside, or for nothing more
+abbrev pub AsksOuter : Guided → Told → Option Question → Type 0
+AsksOuter o told q = AsksNext told o.env o.options o.paths q
+
+-- the first root goes on, by what was told of the rules from outside: it waits for more; or nothing is
+-- missing, these were read, and the root was begun
 abbrev pub Reads : Guided → Path → Told → Option Place → Guided → Type 0
 Reads old root told place new =
-    ((reading : Reading) × (reading.root ≡ root) × (reading.told ≡ told)
+    ((reading : Reading) × (reading.root ≡ root) × (reading.told ≡ told) × AsksOuter old told (Some reading.question)
     × (new ≡ record old { stage = stage.Reading reading }) × (place ≡ None))
-    ⊎ ((begun after : Begun) × (anew : Told) × IsBegun told old begun × IsFresh anew × Steps begun (call.Root root) anew place after
-    × (new ≡ record old { stage = stage.Begun after }))
+    ⊎ ((begun after : Begun) × (anew : Told) × AsksOuter old told None × IsBegun told old begun × IsFresh anew
+    × Steps begun (call.Root root) anew place after × (new ≡ record old { stage = stage.Begun after }))
 
 -- a root that isn't the first was begun, or waits; or not, since another call waits
 abbrev pub RootsIn : Path → Begun → Result (Option Place) Stopped → Begun → Type 0
 RootsIn root old (Ok place) new = (is_waiting old ≡ false) × ((told : Told) × IsFresh told × Steps old (call.Root root) told place new)
 RootsIn root old (Err Misused) new = (is_waiting old ≡ true) × (new ≡ old)
 RootsIn root old (Err Full) new = Ends old new
-RootsIn root old (Err NotUtf8) new = ⊥
-RootsIn root old (Err Limit) new = ⊥
-RootsIn root old (Err Invalid) new = ⊥
-RootsIn root old (Err (Tree error)) new = ⊥
+RootsIn root old (Err other) new = ⊥
 
 -- the first root was begun, or waits
 abbrev pub RootsFirst : Path → Guided → Result (Option Place) Stopped → Guided → Type 0
 RootsFirst root old (Ok place) new = (told : Told) × IsFresh told × Reads old root told place new
 RootsFirst root old (Err Full) new = new ≡ old
-RootsFirst root old (Err Misused) new = ⊥
-RootsFirst root old (Err NotUtf8) new = ⊥
-RootsFirst root old (Err Limit) new = ⊥
-RootsFirst root old (Err Invalid) new = ⊥
-RootsFirst root old (Err (Tree error)) new = ⊥
+RootsFirst root old (Err other) new = ⊥
 
 -- a root was begun, or waits
 abbrev pub RootsAt : Path → Stage → Guided → Result (Option Place) Stopped → Guided → Type 0
@@ -250,9 +229,7 @@ Enters parent name names old (Err NotUtf8) new = (new ≡ old) × (¬ (IsUtf8 na
 Enters parent name names old (Err Misused) new =
     (new ≡ old) × ((is_waiting old ≡ true) ⊎ (¬ (IsListing names) ⊎ ((entered_at old.guide.places parent ≡ None) ⊎ (is_name name ≡ false))))
 Enters parent name names old (Err Full) new = Ends old new
-Enters parent name names old (Err Limit) new = ⊥
-Enters parent name names old (Err Invalid) new = ⊥
-Enters parent name names old (Err (Tree error)) new = ⊥
+Enters parent name names old (Err other) new = ⊥
 
 -- what was wanted of a call was given, and it goes on; or no call waits, or nothing was given; or the
 -- call was refused, and ended
@@ -266,9 +243,7 @@ GivesIn kind bytes fault old (Err Misused) new =
     ((new ≡ old) × ((old.waits ≡ None) ⊎ (IsNoKind kind ⊎ IsNoFault fault)))
     ⊎ (Ends old new × ((w : Waiting) × (e : GuideError) × (old.waits ≡ Some w) × CallRefused old.guide.places w.call e))
 GivesIn kind bytes fault old (Err Full) new = Ends old new
-GivesIn kind bytes fault old (Err Limit) new = ⊥
-GivesIn kind bytes fault old (Err Invalid) new = ⊥
-GivesIn kind bytes fault old (Err (Tree error)) new = ⊥
+GivesIn kind bytes fault old (Err other) new = ⊥
 
 -- the same of the first root, while it waits for the rules from outside
 abbrev pub GivesFirst : ℕ → Bytes → ℕ → Reading → Guided → Result (Option Place) Stopped → Guided → Type 0
@@ -278,9 +253,7 @@ GivesFirst kind bytes fault reading old (Ok place) new =
 GivesFirst kind bytes fault reading old (Err Full) new = new ≡ record old { stage = stage.Fresh }
 GivesFirst kind bytes fault reading old (Err NotUtf8) new = (new ≡ old) × NotGiven reading.question.wanted kind bytes fault NotUtf8
 GivesFirst kind bytes fault reading old (Err Misused) new = (new ≡ old) × NotGiven reading.question.wanted kind bytes fault Misused
-GivesFirst kind bytes fault reading old (Err Limit) new = ⊥
-GivesFirst kind bytes fault reading old (Err Invalid) new = ⊥
-GivesFirst kind bytes fault reading old (Err (Tree error)) new = ⊥
+GivesFirst kind bytes fault reading old (Err other) new = ⊥
 
 abbrev pub GivesAt : ℕ → Bytes → ℕ → Stage → Guided → Result (Option Place) Stopped → Guided → Type 0
 GivesAt kind bytes fault stage.Fresh old given new = (given ≡ Err Misused) × (new ≡ old)
@@ -303,11 +276,7 @@ Leaves place old (Ok done) new =
     × ((other : Place) → IsGone old.guide.places other → IsGone guide.places other) × IsSameGuide old.guide guide
 Leaves place old (Err Misused) new =
     (new ≡ old) × ((is_waiting old ≡ true) ⊎ ((e : GuideError) × IsNotLeft old.guide.places place e))
-Leaves place old (Err NotUtf8) new = ⊥
-Leaves place old (Err Full) new = ⊥
-Leaves place old (Err Limit) new = ⊥
-Leaves place old (Err Invalid) new = ⊥
-Leaves place old (Err (Tree error)) new = ⊥
+Leaves place old (Err other) new = ⊥
 
 -- By what C is told.
 

@@ -1,24 +1,18 @@
--- How it is numbered that rules aren't judged over all paths.
-use Rattle.std.specs.Prelude.{ℕ, Result, Ok, Err}
+-- Why rules aren't judged over all paths.
 use Rattle.ignore_every.specs.declared.error.Error.{Error}
 use Rattle.ignore_every.specs.declared.error.Error.TheVariants as every
-use Rattle.ignore_kept.specs.declared.unjudged.Unjudged.{Unjudged}
-use Rattle.ignore_kept.specs.declared.unjudged.Unjudged.TheVariants.{Memory, Rejected, Misused, TooLarge}
+use Rattle.ignore_kept.specs.declared.stopped.Stopped.{Stopped}
+use Rattle.ignore_kept.specs.declared.stopped.Stopped.TheVariants.{Memory, Invalid, TooLarge}
 
--- why rules aren't judged
-abbrev pub unjudged_code : Unjudged → ℕ
-unjudged_code Memory = 5
-unjudged_code Rejected = 7
-unjudged_code Misused = 9
-unjudged_code TooLarge = 17
+-- why a search over all paths has no result; that its check refuses what it left is `Invalid`
+abbrev pub search_stop : Error → Stopped
+search_stop every.TooLarge = TooLarge
+search_stop every.Rejected = Invalid
+search_stop every.Memory = Memory
 
--- what a call gives that returns nothing: 0, or why it did nothing
-abbrev pub judged_code : {A : Type 0} → Result A Unjudged → ℕ
-judged_code (Ok done) = 0
-judged_code (Err unjudged) = unjudged_code unjudged
-
--- why a search over all paths has no result
-abbrev pub unjudged_by : Error → Unjudged
-unjudged_by every.TooLarge = TooLarge
-unjudged_by every.Rejected = Rejected
-unjudged_by every.Memory = Memory
+-- one of these
+abbrev pub IsUnjudged : Stopped → Type 0
+IsUnjudged TooLarge = Unit {0}
+IsUnjudged Invalid = Unit {0}
+IsUnjudged Memory = Unit {0}
+IsUnjudged other = ⊥

@@ -25,9 +25,7 @@ ListsNames text (Ok names) = AreNames text names
 ListsNames text (Err NotUtf8) = ¬ (IsUtf8 text)
 ListsNames text (Err Misused) = ¬ (IsListing text)
 ListsNames text (Err Full) = Unit {0}
-ListsNames text (Err Limit) = ⊥
-ListsNames text (Err Invalid) = ⊥
-ListsNames text (Err (Tree error)) = ⊥
+ListsNames text (Err other) = ⊥
 
 -- a size, if it is known
 abbrev pub size_of : ℕ → Option ℕ
@@ -59,6 +57,4 @@ ListsEntries text kinds sizes (Ok entries) = (names : List Bytes) × AreNames te
 ListsEntries text kinds sizes (Err NotUtf8) = ¬ (IsUtf8 text)
 ListsEntries text kinds sizes (Err Misused) = (names : List Bytes) → AreNames text names → ¬ (AreAsMany names kinds sizes)
 ListsEntries text kinds sizes (Err Full) = Unit {0}
-ListsEntries text kinds sizes (Err Limit) = ⊥
-ListsEntries text kinds sizes (Err Invalid) = ⊥
-ListsEntries text kinds sizes (Err (Tree error)) = ⊥
+ListsEntries text kinds sizes (Err other) = ⊥

@@ -38,10 +38,7 @@ abbrev pub IsBuilt : Memory → Env → WalkOptions → Result IncrementalIgnore
 IsBuilt tree env options (Ok matcher) = IsMatcher tree env options matcher
 IsBuilt tree env options (Err Misused) = length options.roots ≢ 1
 IsBuilt tree env options (Err Full) = Unit {0}
-IsBuilt tree env options (Err NotUtf8) = ⊥
-IsBuilt tree env options (Err Limit) = ⊥
-IsBuilt tree env options (Err Invalid) = ⊥
-IsBuilt tree env options (Err (Tree error)) = ⊥
+IsBuilt tree env options (Err other) = ⊥
 
 -- making the matcher of a builder's handle and a tree's gives what a handle keeps, or says why not
 abbrev pub Builds : Kept → Kept → Result Kept Stopped → Type 0
@@ -52,10 +49,7 @@ Builds builder tree (Err Misused) =
     (setup_in builder ≡ None) ⊎ (tree_in tree ≡ None)
     ⊎ ((setup : Setup) × (setup_in builder ≡ Some setup) × (length setup.options.roots ≢ 1))
 Builds builder tree (Err Full) = Unit {0}
-Builds builder tree (Err NotUtf8) = ⊥
-Builds builder tree (Err Limit) = ⊥
-Builds builder tree (Err Invalid) = ⊥
-Builds builder tree (Err (Tree error)) = ⊥
+Builds builder tree (Err other) = ⊥
 
 -- what a matcher keeps is right for a scene: it agrees with it, or with one of an earlier tree in which
 -- all that is kept is the same
@@ -87,9 +81,7 @@ Matches old tree path is_dir (Err Full) new =
     × (new ≡ keeping after) × StaysIn before files after
 Matches old tree path is_dir (Err NotUtf8) new = (new ≡ old) × ¬ (IsUtf8 path)
 Matches old tree path is_dir (Err Misused) new = (new ≡ old) × ((matcher_in old ≡ None) ⊎ (tree_in tree ≡ None))
-Matches old tree path is_dir (Err Limit) new = ⊥
-Matches old tree path is_dir (Err Invalid) new = ⊥
-Matches old tree path is_dir (Err (Tree error)) new = ⊥
+Matches old tree path is_dir (Err other) new = ⊥
 
 -- how an answer is numbered
 abbrev pub verdict_code : Verdict → ℕ
@@ -128,10 +120,7 @@ Forgets old dir (Ok count) new =
     (before after : IncrementalIgnore) × (matcher_in old ≡ Some before) × (new ≡ keeping after) × Forgot before dir count after
 Forgets old dir (Err NotUtf8) new = (new ≡ old) × ¬ (IsUtf8 dir)
 Forgets old dir (Err Misused) new = (new ≡ old) × (matcher_in old ≡ None)
-Forgets old dir (Err Full) new = ⊥
-Forgets old dir (Err Limit) new = ⊥
-Forgets old dir (Err Invalid) new = ⊥
-Forgets old dir (Err (Tree error)) new = ⊥
+Forgets old dir (Err other) new = ⊥
 
 -- the number of a call that counts, and what it counts
 abbrev pub count_in : Result ℕ Stopped → ℕ
@@ -151,9 +140,7 @@ Normalizes kept path (Ok text) =
 Normalizes kept path (Err NotUtf8) = ¬ (IsUtf8 path)
 Normalizes kept path (Err Misused) = matcher_in kept ≡ None
 Normalizes kept path (Err Full) = Unit {0}
-Normalizes kept path (Err Limit) = ⊥
-Normalizes kept path (Err Invalid) = ⊥
-Normalizes kept path (Err (Tree error)) = ⊥
+Normalizes kept path (Err other) = ⊥
 
 -- a text as its bytes, where there is one
 abbrev pub bytes_given : {Y : Type 0} → Result (Option (String Y)) Stopped → Result (Option Bytes) Stopped

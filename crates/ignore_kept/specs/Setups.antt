@@ -1,5 +1,5 @@
 -- Builders that C sets.
-use Rattle.std.specs.Prelude.{◌≡◌, ℕ, [], Some, None, Result, Ok, Err}
+use Rattle.std.specs.Prelude.{◌≡◌, ◌++◌, ◌∷◌, ℕ, [], Some, None, Result, Ok, Err}
 use Rattle.std.specs.Str.{IsUtf8}
 use Rattle.ignore.specs.Builder.{unset, with_root, with_custom, with_current_dir, with_standard_filters, with_hidden, with_parents, with_ignore}
 use Rattle.ignore.specs.Builder.{with_git_ignore, with_git_global, with_git_exclude, with_require_git, with_case_insensitive}
@@ -36,6 +36,7 @@ begun root =
       env = nowhere;
       globs = None;
       types = record { definitions = []; choices = [] };
+      paths = [];
       problem = None;
     }
 
@@ -44,10 +45,7 @@ abbrev pub Begins : Bytes → Result Kept Stopped → Type 0
 Begins root (Ok kept) = kept ≡ keeping (begun root)
 Begins root (Err NotUtf8) = ¬ (IsUtf8 root)
 Begins root (Err Memory) = Unit {0}
-Begins root (Err Limit) = ⊥
-Begins root (Err Invalid) = ⊥
-Begins root (Err Misused) = ⊥
-Begins root (Err (Tree error)) = ⊥
+Begins root (Err other) = ⊥
 
 -- the options after a setting
 abbrev pub with_setting : Setting → WalkOptions → WalkOptions
@@ -76,10 +74,15 @@ on_options f setup = record setup { options = f setup.options }
 abbrev pub on_env : (Env → Env) → Setup → Setup
 on_env f setup = record setup { env = f setup.env }
 
+-- one file of rules more, after the others
+abbrev pub with_path : Path → Setup → Setup
+with_path path setup = record setup { paths = setup.paths ++ path ∷ [] }
+
 -- the settings after a text
 abbrev pub with_text : Text → Bytes → Setup → Setup
 with_text text.Root bytes = on_options (λ b. with_root b bytes)
 with_text text.Custom bytes = on_options (λ b. with_custom b bytes)
+with_text text.File bytes = with_path bytes
 with_text text.Base bytes = on_options (λ b. with_current_dir b bytes)
 with_text text.CurrentDir bytes = on_env (λ env. record env { current_dir = Some bytes })
 with_text text.Home bytes = on_env (λ env. record env { home = Some bytes })
@@ -91,11 +94,7 @@ with_text text.GitSystem bytes = on_env (λ env. record env { git_config_system 
 abbrev pub Sets : (Setup → Setup) → Kept → Result (Unit {0}) Stopped → Kept → Type 0
 Sets f old (Ok done) new = (before : Setup) × (setup_in old ≡ Some before) × (new ≡ keeping (f before))
 Sets f old (Err Misused) new = (new ≡ old) × (setup_in old ≡ None)
-Sets f old (Err NotUtf8) new = ⊥
-Sets f old (Err Memory) new = ⊥
-Sets f old (Err Limit) new = ⊥
-Sets f old (Err Invalid) new = ⊥
-Sets f old (Err (Tree error)) new = ⊥
+Sets f old (Err other) new = ⊥
 
 -- a text of a builder leads from what a handle kept to what it keeps
 abbrev pub SetsText : Text → Bytes → Kept → Result (Unit {0}) Stopped → Kept → Type 0
@@ -103,9 +102,7 @@ SetsText what bytes old (Ok done) new = (before : Setup) × (setup_in old ≡ So
 SetsText what bytes old (Err Misused) new = (new ≡ old) × (setup_in old ≡ None)
 SetsText what bytes old (Err NotUtf8) new = (new ≡ old) × ¬ (IsUtf8 bytes)
 SetsText what bytes old (Err Memory) new = new ≡ old
-SetsText what bytes old (Err Limit) new = ⊥
-SetsText what bytes old (Err Invalid) new = ⊥
-SetsText what bytes old (Err (Tree error)) new = ⊥
+SetsText what bytes old (Err other) new = ⊥
 
 -- the same two, by the number that C is told
 abbrev pub Set : (Setup → Setup) → Kept → ℕ → Kept → Type 0

@@ -1,13 +1,11 @@
--- How answers of calls on trees, builders, matchers and walks are numbered.
+-- How it is numbered why a call did nothing.
 use Rattle.std.specs.Prelude.{ℕ, Result, Ok, Err}
 use Rattle.ignore_files.specs.declared.tree_error.TreeError.{TreeError}
 use Rattle.ignore_files.specs.declared.tree_error.TreeError.TheVariants as tree
 use Rattle.ignore_guide.specs.declared.error.GuideError.{GuideError}
 use Rattle.ignore_guide.specs.declared.error.GuideError.TheVariants as error
-use Rattle.ignore_kept.specs.declared.refused.Refused.{Refused}
-use Rattle.ignore_kept.specs.declared.refused.Refused.TheVariants as refused
 use Rattle.ignore_kept.specs.declared.stopped.Stopped.{Stopped}
-use Rattle.ignore_kept.specs.declared.stopped.Stopped.TheVariants.{NotUtf8, Memory, Limit, Invalid, Misused, Tree}
+use Rattle.ignore_kept.specs.declared.stopped.Stopped.TheVariants.{NotUtf8, Memory, Limit, Invalid, Misused, Outside, Tree, TooLarge}
 
 -- why a tree isn't changed
 abbrev pub tree_code : TreeError → ℕ
@@ -24,20 +22,14 @@ stop_code Memory = 5
 stop_code Limit = 6
 stop_code Invalid = 7
 stop_code Misused = 9
+stop_code Outside = 10
 stop_code (Tree error) = tree_code error
+stop_code TooLarge = 17
 
 -- what a call gives that returns nothing: 0, or why it did nothing
 abbrev pub ended_code : {A : Type 0} → Result A Stopped → ℕ
 ended_code (Ok done) = 0
 ended_code (Err stopped) = stop_code stopped
-
--- why a text from C is none
-abbrev pub stopped_by : Refused → Stopped
-stopped_by refused.NotUtf8 = NotUtf8
-stopped_by refused.Memory = Memory
-stopped_by refused.Line = Invalid
-stopped_by refused.Misused = Misused
-stopped_by refused.Outside = Invalid
 
 -- why a guide does nothing: a place, or a name, that is none is a call that isn't to be made
 abbrev pub guide_stop : GuideError → Stopped

@@ -33,9 +33,7 @@ Begins cwd (Ok kept) = (tree : Memory) × (made cwd ≡ Ok tree) × (kept ≡ ke
 Begins cwd (Err (Tree error)) = (error ≡ NoMemory) ⊎ (made cwd ≡ Err error)
 Begins cwd (Err NotUtf8) = ¬ (IsUtf8 cwd)
 Begins cwd (Err Full) = Unit {0}
-Begins cwd (Err Limit) = ⊥
-Begins cwd (Err Invalid) = ⊥
-Begins cwd (Err Misused) = ⊥
+Begins cwd (Err other) = ⊥
 
 -- the text that C gives with a change, if there is one
 abbrev pub text_in : Change → Bytes
@@ -71,10 +69,7 @@ abbrev pub AppliesAs : Result Memory TreeError → Bytes → Memory → Result (
 AppliesAs due text old (Ok done) new = due ≡ Ok new
 AppliesAs due text old (Err (Tree error)) new = (new ≡ old) × ((error ≡ NoMemory) ⊎ (due ≡ Err error))
 AppliesAs due text old (Err NotUtf8) new = (new ≡ old) × ¬ (IsUtf8 text)
-AppliesAs due text old (Err Full) new = ⊥
-AppliesAs due text old (Err Limit) new = ⊥
-AppliesAs due text old (Err Invalid) new = ⊥
-AppliesAs due text old (Err Misused) new = ⊥
+AppliesAs due text old (Err other) new = ⊥
 
 -- a change at a path leads from a tree to a tree
 abbrev pub Applies : Change → Path → Memory → Result (Unit {0}) Stopped → Memory → Type 0
@@ -89,13 +84,11 @@ Changes old change path (Err (Tree error)) new =
     × ((error ≡ NoMemory) ⊎ (change_of change path before ≡ Err error))
 Changes old change path (Err NotUtf8) new = (new ≡ old) × (¬ (IsUtf8 path) ⊎ ¬ (IsUtf8 (text_in change)))
 Changes old change path (Err Misused) new = (new ≡ old) × (tree_in old ≡ None)
-Changes old change path (Err Full) new = ⊥
-Changes old change path (Err Limit) new = ⊥
-Changes old change path (Err Invalid) new = ⊥
+Changes old change path (Err other) new = ⊥
 
 -- the same, by the number that C is told
-abbrev pub Told : Kept → Change → Bytes → ℕ → Kept → Type 0
-Told old change path code new =
+abbrev pub Changed : Kept → Change → Bytes → ℕ → Kept → Type 0
+Changed old change path code new =
     (given : Result (Unit {0}) Stopped) × Changes old change path given new × (code ≡ ended_code given)
 
 -- P holds of a fault that has a number; without one the call does nothing, and says so

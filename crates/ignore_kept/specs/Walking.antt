@@ -47,10 +47,7 @@ IsListOf tree env b (Ok all) =
     × ForItsList (IsPlain b (tree_of tree)) env b (tree_of tree) (λ g items n. (all ≡ items) × (n ≤ b.limit))
 IsListOf tree env b (Err Limit) = ForItsList (IsPlain b (tree_of tree)) env b (tree_of tree) (λ g items n. b.limit < n)
 IsListOf tree env b (Err Full) = Unit {0}
-IsListOf tree env b (Err NotUtf8) = ⊥
-IsListOf tree env b (Err Invalid) = ⊥
-IsListOf tree env b (Err Misused) = ⊥
-IsListOf tree env b (Err (Tree error)) = ⊥
+IsListOf tree env b (Err other) = ⊥
 
 -- making the walk of a builder's handle over a tree's gives what a handle keeps, of which nothing
 -- was handed out, or says why not
@@ -63,9 +60,7 @@ Builds builder tree (Err Limit) =
     × IsListOf files setup.env setup.options (Err Limit)
 Builds builder tree (Err Misused) = (setup_in builder ≡ None) ⊎ (tree_in tree ≡ None)
 Builds builder tree (Err Full) = Unit {0}
-Builds builder tree (Err NotUtf8) = ⊥
-Builds builder tree (Err Invalid) = ⊥
-Builds builder tree (Err (Tree error)) = ⊥
+Builds builder tree (Err other) = ⊥
 
 -- how what an entry is is numbered; standard input has no kind
 abbrev pub kind_code : Option FileType → ℕ

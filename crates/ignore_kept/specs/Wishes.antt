@@ -100,10 +100,7 @@ abbrev pub Blames : Problem → Setup → Result (Unit {0}) Stopped → Setup �
 Blames problem old (Err Invalid) new = (is_memory problem ≡ false) × Ails problem old new
 Blames problem old (Err Full) new = new ≡ old
 Blames problem old (Ok done) new = ⊥
-Blames problem old (Err NotUtf8) new = ⊥
-Blames problem old (Err Misused) new = ⊥
-Blames problem old (Err Limit) new = ⊥
-Blames problem old (Err (Tree error)) new = ⊥
+Blames problem old (Err other) new = ⊥
 
 -- telling leads from settings to settings: done; or refused, and the problem kept; or nothing
 -- changed
@@ -113,8 +110,7 @@ Takes wish old (Err Invalid) new = (problem : Problem) × Faulty wish old proble
 Takes wish old (Err NotUtf8) new = (new ≡ old) × IsNoText wish
 Takes wish old (Err Misused) new = (new ≡ old) × IsEarly wish old
 Takes wish old (Err Full) new = new ≡ old
-Takes wish old (Err Limit) new = ⊥
-Takes wish old (Err (Tree error)) new = ⊥
+Takes wish old (Err other) new = ⊥
 
 -- the same of a handle, which may keep no settings
 abbrev pub WishesOf : Option Setup → Wish → Kept → Result (Unit {0}) Stopped → Kept → Type 0
@@ -136,10 +132,7 @@ AddsDefaults rows old (Ok done) new =
     (before : Setup) × (setup_in old ≡ Some before) × (new ≡ keeping (record (well before) { types = with_defaults rows before.types }))
 AddsDefaults rows old (Err Misused) new = (new ≡ old) × (setup_in old ≡ None)
 AddsDefaults rows old (Err Full) new = new ≡ old
-AddsDefaults rows old (Err NotUtf8) new = ⊥
-AddsDefaults rows old (Err Limit) new = ⊥
-AddsDefaults rows old (Err Invalid) new = ⊥
-AddsDefaults rows old (Err (Tree error)) new = ⊥
+AddsDefaults rows old (Err other) new = ⊥
 
 -- the same, by the number that C is told
 abbrev pub DefaultsAdded : List Row → Kept → ℕ → Kept → Type 0
@@ -156,9 +149,7 @@ AddsRules tree path old (Err Invalid) new =
     × Ails problem (record old { options = new.options }) new
 AddsRules tree path old (Err NotUtf8) new = (new ≡ old) × ¬ (IsUtf8 path)
 AddsRules tree path old (Err Full) new = new ≡ old
-AddsRules tree path old (Err Misused) new = ⊥
-AddsRules tree path old (Err Limit) new = ⊥
-AddsRules tree path old (Err (Tree error)) new = ⊥
+AddsRules tree path old (Err other) new = ⊥
 
 -- the same of two handles, which may keep neither settings nor a tree
 abbrev pub AddsOf : Option Setup → Option Memory → Path → Kept → Result (Unit {0}) Stopped → Kept → Type 0

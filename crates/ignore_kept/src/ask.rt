@@ -2,14 +2,15 @@
 ghost use Rattle.std.specs.Prelude.{◌≡◌, ◌++◌, [], IfOk, IfErr, Ok, Err, slice_get, string_bytes};
 ghost use Rattle.ignore_base.specs.Match.{match_map};
 ghost use Rattle.ignore_kept.specs.Asks.{Asks, AsksCode, Counted, Explains, Lists, TellsRule, listed, match_reason, no_reason, match_text, reason_of, rule_text, source_text};
-ghost use Rattle.ignore_kept.specs.Codes.{match_code, refusal_code};
+ghost use Rattle.ignore_kept.specs.Codes.{match_code};
+ghost use Rattle.ignore_kept.specs.Stops.{stop_code};
 ghost use Rattle.ignore_kept.specs.declared.ask.Manner.TheVariants as manner;
 
 use crate::as_git::matched_as_git;
 use crate::kept::Kept;
-use crate::refused::Refused;
 use crate::room::text_of;
 use crate::rule::{Counts, Reason};
+use crate::stopped::Stopped;
 use ignore::Match;
 use ignore::gitignore::{Gitignore, Glob};
 use std::alloc::{AllocError, Global};
@@ -74,26 +75,26 @@ pub fn as_git(path: &[u8], is_dir: bool) -> Question<'_>
 
 /// What C is told: a number, and the rule that decided.
 #[derive(Drop)]
-pub struct Told {
+pub struct ToldRule {
     pub code: u32,
     pub reason: Reason,
     pub text: Vec<u8>,
 }
 
 /// What the rules say.
-fn ask<'k>(kept: &'k Kept, asked: Question<'_>) -> Result<Match<&'k Glob>, Refused>
+fn ask<'k>(kept: &'k Kept, asked: Question<'_>) -> Result<Match<&'k Glob>, Stopped>
     ensures answered { IfOk result (λ m. Asks kept.now asked.entry.manner asked.entry.path.now asked.entry.is_dir (Ok (match_map (λ g. g.now) m))) }
     ensures refused { IfErr result (λ e. Asks kept.now asked.entry.manner asked.entry.path.now asked.entry.is_dir (Err e)) }
 {
     let Kept::Rules(rules) = kept else {
-        return Err(Refused::Misused);
+        return Err(Stopped::Misused);
     };
     let path = text_of(asked.path)?;
     match asked.manner {
         Manner::Alone => Ok(rules.matched(path, asked.is_dir)?),
         Manner::WithParents => {
             if !rules.is_under_root(path) {
-                return Err(Refused::Outside);
+                return Err(Stopped::Outside);
             }
             Ok(rules.matched_path_or_any_parents(path, asked.is_dir)?)
         }
@@ -117,50 +118,50 @@ pub fn code(kept: &Kept, asked: Question<'_>) -> u32
 {
     match ask(kept, asked) {
         Ok(found) => match_code(&found),
-        Err(refused) => refused.code(),
+        Err(stopped) => stopped.code(),
     }
 }
 
 /// What the rules say, with the rule that decided.
-pub fn explain(alloc: Global, kept: &Kept, asked: Question<'_>) -> Told
+pub fn explain(alloc: Global, kept: &Kept, asked: Question<'_>) -> ToldRule
     ensures { Explains kept.now asked.entry.manner asked.entry.path.now asked.entry.is_dir result.code result.reason result.text.items }
 {
     match ask(kept, asked) {
         Ok(found) => match text_of_match(alloc, &found) {
-            Ok(text) => Told {
+            Ok(text) => ToldRule {
                 code: match_code(&found),
                 reason: reason_of_match(&found),
                 text,
             },
-            Err(_) => untold(alloc, Refused::Memory),
+            Err(_) => untold(alloc, Stopped::Memory),
         },
-        Err(refused) => untold(alloc, refused),
+        Err(stopped) => untold(alloc, stopped),
     }
 }
 
 /// The rule at an index: whether it ignores or whitelists, and its parts.
-pub fn rule(alloc: Global, kept: &Kept, index: usize) -> Told
+pub fn rule(alloc: Global, kept: &Kept, index: usize) -> ToldRule
     ensures { TellsRule kept.now index result.code result.reason result.text.items }
 {
     match list(kept, index) {
         Ok(found) => match text_of_match(alloc, &found) {
-            Ok(text) => Told {
+            Ok(text) => ToldRule {
                 code: match_code(&found),
                 reason: reason_of_match(&found),
                 text,
             },
-            Err(_) => untold(alloc, Refused::Memory),
+            Err(_) => untold(alloc, Stopped::Memory),
         },
-        Err(refused) => untold(alloc, refused),
+        Err(stopped) => untold(alloc, stopped),
     }
 }
 
-fn list(kept: &Kept, index: usize) -> Result<Match<&Glob>, Refused>
+fn list(kept: &Kept, index: usize) -> Result<Match<&Glob>, Stopped>
     ensures listed { IfOk result (λ m. Lists kept.now index (Ok (match_map (λ g. g.now) m))) }
     ensures refused { IfErr result (λ e. Lists kept.now index (Err e)) }
 {
     let Kept::Rules(rules) = kept else {
-        return Err(Refused::Misused);
+        return Err(Stopped::Misused);
     };
     Ok(listed(rules, index))
 }
@@ -176,13 +177,13 @@ fn listed(rules: &Gitignore, index: usize) -> Match<&Glob>
 }
 
 /// No answer.
-fn untold(alloc: Global, refused: Refused) -> Told
-    ensures code { result.code ≡ refusal_code refused }
+fn untold(alloc: Global, stopped: Stopped) -> ToldRule
+    ensures code { result.code ≡ stop_code stopped }
     ensures reason { result.reason ≡ no_reason }
     ensures text { result.text.items ≡ [] }
 {
-    Told {
-        code: refused.code(),
+    ToldRule {
+        code: stopped.code(),
         reason: NO_REASON,
         text: Vec::new(alloc),
     }
@@ -253,7 +254,7 @@ pub fn count(kept: &Kept) -> (u32, Counts)
     ensures { Counted kept.now result.0 result.1 }
 {
     let Kept::Rules(rules) = kept else {
-        return (Refused::Misused.code(), NO_COUNTS);
+        return (Stopped::Misused.code(), NO_COUNTS);
     };
     let counts = Counts {
         ignores: rules.num_ignores(),

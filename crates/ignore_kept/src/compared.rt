@@ -2,10 +2,10 @@
 ghost use Rattle.std.specs.Prelude.{◌≡◌, IfOk, IfErr, Ok, Err};
 ghost use Rattle.ignore_every.specs.Verdicts.{IsComparison};
 ghost use Rattle.ignore_kept.specs.Comparing.{Compared, Compares, TellsComparison, counted_by, difference_parts, verdict_code};
-ghost use Rattle.ignore_kept.specs.declared.unjudged.Unjudged.TheVariants.{Misused};
+ghost use Rattle.ignore_kept.specs.Judging.{IsUnjudged};
 
 use crate::kept::Kept;
-use crate::unjudged::Unjudged;
+use crate::stopped::Stopped;
 use ignore::every::{self, Comparison, Counted, Difference, Verdict};
 use ignore::gitignore::Gitignore;
 use std::alloc::{AllocError, Global};
@@ -42,46 +42,46 @@ pub struct DifferenceParts {
 
 /// What C is told: a number, where the lists differ, and the path of that.
 #[derive(Drop)]
-pub struct Told {
+pub struct ToldDifference {
     pub code: u32,
     pub difference: DifferenceParts,
     pub text: Vec<u8>,
 }
 
 /// Whether the rules of two handles say the same, or else where they differ.
-pub fn compare(alloc: Global, old: &Kept, asked: Asked<'_>) -> Told
+pub fn compare(alloc: Global, old: &Kept, asked: Asked<'_>) -> ToldDifference
     ensures { Compared old.now asked.entry.new.now asked.entry.options.only_ignored result.code result.difference result.text.items }
 {
     match comparison(alloc, old, asked) {
         Ok(comparison) => match told_of(alloc, &comparison) {
             Ok(told) => told,
-            Err(_) => untold(alloc, Unjudged::Memory),
+            Err(_) => untold(alloc, Stopped::Memory),
         },
-        Err(unjudged) => untold(alloc, unjudged),
+        Err(stopped) => untold(alloc, stopped),
     }
 }
 
-fn comparison(alloc: Global, old: &Kept, asked: Asked<'_>) -> Result<Comparison, Unjudged>
+fn comparison(alloc: Global, old: &Kept, asked: Asked<'_>) -> Result<Comparison, Stopped>
     ensures { Compares old.now asked.entry.new.now asked.entry.options.only_ignored result }
 {
     let Kept::Rules(before) = old else {
-        return Err(Unjudged::Misused);
+        return Err(Stopped::Misused);
     };
     let Kept::Rules(after) = asked.new else {
-        return Err(Unjudged::Misused);
+        return Err(Stopped::Misused);
     };
     compared(alloc, before, after, asked.options)
 }
 
-#[tactic(auto, using(crate::proofs::Judged::no_misuse))]
+#[tactic(auto, using(crate::proofs::Judged::unjudged))]
 fn compared(
     alloc: Global,
     before: &Gitignore,
     after: &Gitignore,
     options: CompareOptions,
-) -> Result<Comparison, Unjudged>
+) -> Result<Comparison, Stopped>
     ensures same { IfOk result (IsComparison (counted_by options.only_ignored) before.now.rules after.now.rules) }
-    ensures not_misused { IfErr result (λ e. e ≡ Misused → ⊥) }
+    ensures unjudged { IfErr result IsUnjudged }
 {
     let counted = counted_by(options.only_ignored);
     let comparison = every::compare(alloc, before, after, counted, options.limit)?;
@@ -99,16 +99,16 @@ fn counted_by(only_ignored: bool) -> Counted
 }
 
 /// What is told of a comparison.
-fn told_of(alloc: Global, comparison: &Comparison) -> Result<Told, AllocError>
+fn told_of(alloc: Global, comparison: &Comparison) -> Result<ToldDifference, AllocError>
     ensures { IfOk result (λ t. TellsComparison (Ok comparison.now) t.code t.difference t.text.items) }
 {
     match comparison {
-        Comparison::Same => Ok(Told {
+        Comparison::Same => Ok(ToldDifference {
             code: 0,
             difference: NO_DIFFERENCE,
             text: Vec::new(alloc),
         }),
-        Comparison::Differ(difference) => Ok(Told {
+        Comparison::Differ(difference) => Ok(ToldDifference {
             code: 1,
             difference: difference_parts(difference),
             text: Vec::from_slice(alloc, difference.question.path.as_bytes())?,
@@ -117,11 +117,11 @@ fn told_of(alloc: Global, comparison: &Comparison) -> Result<Told, AllocError>
 }
 
 /// What is told where there is none.
-fn untold(alloc: Global, unjudged: Unjudged) -> Told
-    ensures { TellsComparison (Err unjudged) result.code result.difference result.text.items }
+fn untold(alloc: Global, stopped: Stopped) -> ToldDifference
+    ensures { TellsComparison (Err stopped) result.code result.difference result.text.items }
 {
-    Told {
-        code: unjudged.code(),
+    ToldDifference {
+        code: stopped.code(),
         difference: NO_DIFFERENCE,
         text: Vec::new(alloc),
     }

@@ -1,19 +1,18 @@
 //! What a guide decides on entries, as C is told it.
 ghost use Rattle.std.specs.Prelude.{◌≡◌, ◌≤◌, Ok, Err, IfOk, IfErr, map};
 ghost use Rattle.std.specs.Option.{option_copied};
-ghost use Rattle.ignore_base.specs.Match.{match_map};
-ghost use Rattle.ignore_kept.specs.Deciding.{Decides, DecidesAll, Reasons, ReasonsTold, TellsCause, cause_code, flag, guide_in, listed_code};
+ghost use Rattle.ignore_kept.specs.Deciding.{Decides, DecidesAll, Reasons, ReasonsTold, flag, guide_in, listed_code};
+ghost use Rattle.ignore_kept.specs.Explained.{explained_in};
 ghost use Rattle.ignore_kept.specs.Matching.{verdict_code};
-ghost use Rattle.ignore_why.specs.Cited.{cited_of};
 
 use crate::entries::{Listed, entries_in, size_of};
-use crate::explained::{NO_WHY, Why, said_parts, texts_of, told_as};
+use crate::explained::{ToldReason, told_of, untold};
 use crate::guided::Stage;
 use crate::kept::Kept;
 use crate::room::text_of;
 use crate::stopped::Stopped;
 use ignore::guide::{Entry, Guide, Place};
-use ignore::{Cause, IncrementalMatch, Match};
+use ignore::{Explanation, IncrementalMatch};
 use std::alloc::{AllocError, Global};
 
 /// An entry of the directory at a place, as C tells it.
@@ -126,30 +125,22 @@ fn verdict_code(found: IncrementalMatch) -> u8
     1
 }
 
-/// What C is told of what decides: a number, why, and the texts of that.
-#[derive(Drop)]
-pub struct Told {
-    pub code: u32,
-    pub why: Why,
-    pub text: Vec<u8>,
-}
-
-/// What decides on an entry, whatever its depth and its size are.
-pub fn why(alloc: Global, kept: &Kept, asked: Asked<'_>) -> Told
-    ensures { ReasonsTold asked.entry.place asked.entry.name.now asked.entry.is_dir kept.now result.code result.why result.text.items }
+/// What becomes of an entry, and why.
+pub fn why(alloc: Global, kept: &Kept, asked: Asked<'_>) -> ToldReason
+    ensures { ReasonsTold asked.entry.place asked.entry.name.now asked.entry.is_dir asked.entry.size kept.now result.code result.found result.why result.text.items }
 {
-    match cause(kept, asked) {
+    match explain(kept, asked) {
         Err(stopped) => untold(alloc, stopped),
-        Ok(cause) => match told_of(alloc, &cause) {
+        Ok(explanation) => match told_of(alloc, explanation) {
             Ok(told) => told,
             Err(_) => untold(alloc, Stopped::Memory),
         },
     }
 }
 
-fn cause(kept: &Kept, asked: Asked<'_>) -> Result<Match<Cause>, Stopped>
-    ensures caused { IfOk result (λ m. Reasons asked.entry.place asked.entry.name.now asked.entry.is_dir kept.now (Ok (match_map cited_of m))) }
-    ensures refused { IfErr result (λ e. Reasons asked.entry.place asked.entry.name.now asked.entry.is_dir kept.now (Err e)) }
+fn explain(kept: &Kept, asked: Asked<'_>) -> Result<Explanation, Stopped>
+    ensures explained { IfOk result (λ e. Reasons asked.entry.place asked.entry.name.now asked.entry.is_dir asked.entry.size kept.now (explained_in (Ok e))) }
+    ensures refused { IfErr result (λ e. Reasons asked.entry.place asked.entry.name.now asked.entry.is_dir asked.entry.size kept.now (Err e)) }
 {
     let Some(guide) = guide_in(kept) else {
         return Err(Stopped::Misused);
@@ -157,39 +148,13 @@ fn cause(kept: &Kept, asked: Asked<'_>) -> Result<Match<Cause>, Stopped>
     let Ok(name) = text_of(asked.name) else {
         return Err(Stopped::NotUtf8);
     };
-    match guide.cause(asked.place, name, asked.is_dir) {
-        Ok(cause) => Ok(cause),
+    let entry = Entry {
+        name,
+        is_dir: asked.is_dir,
+        size: size_of(asked.size),
+    };
+    match guide.explain(asked.place, &entry) {
+        Ok(explanation) => Ok(explanation),
         Err(error) => Err(Stopped::from(error)),
-    }
-}
-
-fn told_of(alloc: Global, cause: &Match<Cause>) -> Result<Told, AllocError>
-    ensures { IfOk result (λ t. TellsCause (Ok (match_map cited_of cause.now)) t.code t.why t.text.items) }
-{
-    let parts = said_parts(cause);
-    Ok(Told {
-        code: cause_code(cause),
-        why: told_as(&parts),
-        text: texts_of(alloc, &parts)?,
-    })
-}
-
-fn cause_code(cause: &Match<Cause>) -> u32
-    ensures { result ≡ cause_code (match_map cited_of cause.now) }
-{
-    match cause {
-        Match::None => 1,
-        Match::Ignore(_) => 2,
-        Match::Whitelist(_) => 3,
-    }
-}
-
-fn untold(alloc: Global, stopped: Stopped) -> Told
-    ensures { TellsCause (Err stopped) result.code result.why result.text.items }
-{
-    Told {
-        code: stopped.code(),
-        why: NO_WHY,
-        text: Vec::new(alloc),
     }
 }

@@ -1,5 +1,5 @@
 //! The directories that a guide is led through, as C tells of them.
-ghost use Rattle.std.specs.Prelude.{◌≡◌, false, IfOk, IfErr, OnOk, OnErr, map, option_map};
+ghost use Rattle.std.specs.Prelude.{◌≡◌, None, false, IfOk, IfErr, OnOk, OnErr, map, option_map};
 ghost use Rattle.ignore.specs.Asked.{base_dir};
 ghost use Rattle.ignore_base.specs.Problem.{problem_of};
 ghost use Rattle.ignore_guide.specs.Hosted.{CallRefused, IsToldOf};
@@ -8,7 +8,7 @@ ghost use Rattle.ignore_guide.specs.Told.{IsAlmostFresh, IsFresh};
 ghost use Rattle.ignore_guide.specs.declared.error.GuideError.TheVariants as errors;
 ghost use Rattle.ignore_guide.specs.declared.hosted.Call.TheVariants as calls;
 ghost use Rattle.ignore_guide.specs.declared.told.Told.{Told};
-ghost use Rattle.ignore_kept.specs.Guides.{AddsAll, AddsIn, AtBegun, Ends, Enters, Gives, GivesIn, IsBegun, KeptBy, Leaves, OnGuide, Reads, Roots, RootsFirst, RootsIn, Steps, is_waiting, place_in, settled};
+ghost use Rattle.ignore_kept.specs.Guides.{AddsAll, AddsIn, AsksOuter, AtBegun, Ends, Enters, Gives, GivesIn, IsBegun, KeptBy, Leaves, OnGuide, Reads, Roots, RootsFirst, RootsIn, Steps, is_waiting, place_in, settled};
 ghost use Rattle.ignore_kept.specs.declared.guided.Begun.{Begun};
 ghost use Rattle.ignore_kept.specs.declared.guided.Reading.{Reading};
 ghost use Rattle.ignore_kept.specs.declared.guided.Stage.TheVariants as stages;
@@ -20,7 +20,7 @@ use crate::kept::Kept;
 use crate::room::text_of;
 use crate::stopped::Stopped;
 use ignore::files::{Env, Name};
-use ignore::guide::{Given, GuideError, Place, Question, Step, Told, Waiting};
+use ignore::guide::{Given, GuideError, Place, Step, Told, Waiting};
 use ignore::{Error, WalkOptions};
 use ignore_dir::errors::joined_some;
 use ignore_guide::internal::take_down;
@@ -101,18 +101,10 @@ fn first_root(alloc: Global, guided: &mut Guided, root: &str) -> Result<Option<P
         return Err(Stopped::Memory);
     };
     let told = Told::nothing(alloc);
-    let rest = Vec::new(alloc);
-    match read_outside(alloc, guided, root, Outer { told, rest }) {
+    match read_outside(alloc, guided, root, told) {
         Ok(place) => Ok(place),
         Err(_) => Err(Stopped::Memory),
     }
-}
-
-/// What was told of the rules from outside, and what is asked of them next.
-#[derive(Drop)]
-struct Outer {
-    told: Told,
-    rest: Vec<Question>,
 }
 
 /// Goes on with the first root: its host is asked where something of the rules from outside is
@@ -121,33 +113,37 @@ fn read_outside(
     alloc: Global,
     guided: &mut Guided,
     root: Name,
-    outer: Outer,
+    told: Told,
 ) -> Result<Option<Place>, AllocError>
-    ensures reads { IfOk result (λ place. Reads guided.old root outer.told place guided.new) }
+    ensures reads { IfOk result (λ place. Reads guided.old root told place guided.new) }
     ensures unchanged { OnErr result (guided.new ≡ guided.old) }
 {
-    let Outer { told, mut rest } = outer;
-    if let Some(question) = rest.pop() {
-        guided.stage = Stage::Reading(Reading {
-            root,
-            told,
-            question,
-            rest,
-        });
-        return Ok(None);
-    }
     let paths = guided.paths.as_slice();
-    let mut missing = guided.options.missing_for_guide(&told, &guided.env, paths)?;
-    if let Some(question) = missing.pop() {
-        guided.stage = Stage::Reading(Reading {
-            root,
-            told,
-            question,
-            rest: missing,
-        });
-        return Ok(None);
+    let next = guided.options.next_for_guide(&told, &guided.env, paths)?;
+    match next {
+        None => begin_told(alloc, guided, root, &told),
+        Some(question) => {
+            guided.stage = Stage::Reading(Reading {
+                root,
+                told,
+                question,
+            });
+            Ok(None)
+        }
     }
-    let begun = begun_by(alloc, guided, &told)?;
+}
+
+/// Begins the first root where nothing of the rules from outside is missing.
+fn begin_told(
+    alloc: Global,
+    guided: &mut Guided,
+    root: Name,
+    told: &Told,
+) -> Result<Option<Place>, AllocError>
+    ensures reads { AsksOuter guided.old told.now None → IfOk result (λ place. Reads guided.old root told.now place guided.new) }
+    ensures unchanged { OnErr result (guided.new ≡ guided.old) }
+{
+    let begun = begun_by(alloc, guided, told)?;
     begin(guided, begun, root.as_str())
 }
 
@@ -402,10 +398,9 @@ fn read_on(
         root,
         mut told,
         question,
-        rest,
     } = reading;
     take_down(alloc, &mut told, &question, given)?;
-    read_outside(alloc, guided, root, Outer { told, rest })
+    read_outside(alloc, guided, root, told)
 }
 
 /// Leaves the directory at a place.

@@ -1,4 +1,4 @@
-//! What becomes of a path by a matcher, and why, as C is told it.
+//! What becomes of a path by a matcher, and why, as C is told it; a guide's reasons are told so too.
 ghost use Rattle.std.specs.Prelude.{◌≡◌, true, Ok, Err, IfOk, IfErr, is_some, option_map, string_bytes};
 ghost use Rattle.ignore.specs.WalkWords.{Agrees, Stays, named_of, query, query_why, query_why_of};
 ghost use Rattle.ignore_base.specs.Match.{match_map};
@@ -66,7 +66,7 @@ pub struct Lent<'r> {
 
 /// What C is told: a number, what becomes of the path besides, why, and the texts of that.
 #[derive(Drop)]
-pub struct Told {
+pub struct ToldReason {
     pub code: u32,
     pub found: Found,
     pub why: Why,
@@ -74,7 +74,7 @@ pub struct Told {
 }
 
 /// What becomes of a path, and why.
-pub fn explain(alloc: Global, kept: &mut Kept, asked: Asked<'_>) -> Told
+pub fn explain(alloc: Global, kept: &mut Kept, asked: Asked<'_>) -> ToldReason
     ensures { AsksWhy kept.old asked.entry.tree.now asked.entry.path.now asked.entry.is_dir result.code result.found result.why result.text.items kept.new }
 {
     match ask(kept, asked) {
@@ -123,12 +123,12 @@ fn query(
 }
 
 /// What is told of an answer with its reason.
-fn told_of(alloc: Global, explanation: Explanation) -> Result<Told, AllocError>
+pub(crate) fn told_of(alloc: Global, explanation: Explanation) -> Result<ToldReason, AllocError>
     ensures { IfOk result (λ t. TellsReason (explained_in (Ok explanation)) t.code t.found t.why t.text.items) }
 {
     let parts = parts_of(&explanation.reason);
     let answer: Result<IncrementalMatch, Stopped> = Ok(explanation.answer);
-    Ok(Told {
+    Ok(ToldReason {
         code: code(&answer),
         found: rest_of(&answer),
         why: told_as(&parts),
@@ -137,11 +137,11 @@ fn told_of(alloc: Global, explanation: Explanation) -> Result<Told, AllocError>
 }
 
 /// What is told where there is none.
-fn untold(alloc: Global, stopped: Stopped) -> Told
+pub(crate) fn untold(alloc: Global, stopped: Stopped) -> ToldReason
     ensures { TellsReason (Err stopped) result.code result.found result.why result.text.items }
 {
     let answer: Result<IncrementalMatch, Stopped> = Err(stopped);
-    Told {
+    ToldReason {
         code: code(&answer),
         found: rest_of(&answer),
         why: NO_WHY,
@@ -149,7 +149,7 @@ fn untold(alloc: Global, stopped: Stopped) -> Told
     }
 }
 
-pub(crate) const NO_WHY: Why = Why {
+const NO_WHY: Why = Why {
     kind: 0,
     rank: 0,
     line: 0,
@@ -165,7 +165,7 @@ pub(crate) const NO_WHY: Why = Why {
 };
 
 /// The numbers of parts, and the lengths of their texts.
-pub(crate) fn told_as(parts: &Lent<'_>) -> Why
+fn told_as(parts: &Lent<'_>) -> Why
     ensures { result ≡ told_as (parts_of parts.now) }
 {
     Why {
@@ -185,7 +185,7 @@ pub(crate) fn told_as(parts: &Lent<'_>) -> Why
 }
 
 /// The texts of parts, one after the other.
-pub(crate) fn texts_of(alloc: Global, parts: &Lent<'_>) -> Result<Vec<u8>, AllocError>
+fn texts_of(alloc: Global, parts: &Lent<'_>) -> Result<Vec<u8>, AllocError>
     ensures { IfOk result (λ text. text.items ≡ texts_of (parts_of parts.now)) }
 {
     let mut text = Vec::from_slice(alloc, parts.directory.as_bytes())?;
@@ -233,7 +233,7 @@ fn inside_parts<'r>(directory: &'r str, parts: Lent<'r>) -> Lent<'r>
     }
 }
 
-pub(crate) fn said_parts(said: &Match<Cause>) -> Lent<'_>
+fn said_parts(said: &Match<Cause>) -> Lent<'_>
     ensures { parts_of result ≡ said_parts (match_map cited_of said.now) }
 {
     match said {

@@ -2,10 +2,10 @@
 ghost use Rattle.std.specs.Prelude.{◌≡◌, ◌++◌, ◌∷◌, [], IfOk, IfErr, OnOk, Some, cond, length, slice_get};
 ghost use Rattle.ignore_kept.specs.Findings.{AreDeadBelow, AreFindings, Finds, TellsFinding, TellsOverruling, TellsRule, alone, example_parts, is_dead, named_by, named_in, no_dead, overruled_parts, overruling_at, parts_in, parts_of, texts_of, told_as};
 ghost use Rattle.ignore_kept.specs.Kinds.{findings_in};
-ghost use Rattle.ignore_kept.specs.declared.unjudged.Unjudged.TheVariants.{Misused};
+ghost use Rattle.ignore_kept.specs.Judging.{IsUnjudged};
 
 use crate::kept::Kept;
-use crate::unjudged::Unjudged;
+use crate::stopped::Stopped;
 use ignore::every::{Analysis, Example, Finding};
 use ignore::gitignore::Gitignore;
 use std::alloc::{AllocError, Global};
@@ -47,7 +47,7 @@ pub struct Parts<'f> {
 
 /// What C is told: a number, a dead rule, and the texts of its example.
 #[derive(Drop)]
-pub struct Told {
+pub struct ToldFinding {
     pub code: u32,
     pub dead: Dead,
     pub text: Vec<u8>,
@@ -55,20 +55,20 @@ pub struct Told {
 
 /// What is found of the rules of a handle, with at most so many states.
 #[tactic(auto, using(crate::proofs::Judged::finds, crate::proofs::Judged::finds_none))]
-pub fn find(alloc: Global, kept: &Kept, limit: usize) -> Result<Kept, Unjudged>
+pub fn find(alloc: Global, kept: &Kept, limit: usize) -> Result<Kept, Stopped>
     ensures { Finds kept.now result }
 {
     let Kept::Rules(rules) = kept else {
-        return Err(Unjudged::Misused);
+        return Err(Stopped::Misused);
     };
     let found = found_of(alloc, rules, limit)?;
     Ok(Kept::Findings(found))
 }
 
-#[tactic(auto, using(crate::proofs::DeadRules::are_findings, crate::proofs::Judged::no_misuse))]
-fn found_of(alloc: Global, rules: &Gitignore, limit: usize) -> Result<Findings, Unjudged>
+#[tactic(auto, using(crate::proofs::DeadRules::are_findings, crate::proofs::Judged::unjudged, crate::proofs::Judged::unjudged_full))]
+fn found_of(alloc: Global, rules: &Gitignore, limit: usize) -> Result<Findings, Stopped>
     ensures found { IfOk result (AreFindings rules.now.rules) }
-    ensures not_misused { IfErr result (λ e. e ≡ Misused → ⊥) }
+    ensures unjudged { IfErr result IsUnjudged }
 {
     let analysis = Analysis::of(alloc, rules, limit)?;
     let dead = dead_of(alloc, &analysis.findings)?;
@@ -121,11 +121,11 @@ fn is_dead(finding: &Finding) -> bool
 }
 
 /// What is found of the dead rule at an index of these.
-pub fn rule(alloc: Global, kept: &Kept, index: usize) -> Told
+pub fn rule(alloc: Global, kept: &Kept, index: usize) -> ToldFinding
     ensures { TellsFinding (findings_in kept.now) index result.code result.dead result.text.items }
 {
     let Kept::Findings(found) = kept else {
-        return untold(alloc, Unjudged::Misused.code());
+        return untold(alloc, Stopped::Misused.code());
     };
     match found.dead.get(index) {
         None => untold(alloc, 1),
@@ -134,24 +134,24 @@ pub fn rule(alloc: Global, kept: &Kept, index: usize) -> Told
 }
 
 /// What is found of the rule with an index.
-fn told_rule(alloc: Global, findings: &[Finding], rule: usize) -> Told
+fn told_rule(alloc: Global, findings: &[Finding], rule: usize) -> ToldFinding
     ensures { TellsRule rule (slice_get findings.now rule) result.code result.dead result.text.items }
 {
     match findings.get(rule) {
         None => untold(alloc, 1),
         Some(finding) => match told_of(alloc, rule, finding) {
             Ok(told) => told,
-            Err(_) => untold(alloc, Unjudged::Memory.code()),
+            Err(_) => untold(alloc, Stopped::Memory.code()),
         },
     }
 }
 
-fn untold(alloc: Global, code: u32) -> Told
+fn untold(alloc: Global, code: u32) -> ToldFinding
     ensures code { result.code ≡ code }
     ensures dead { result.dead ≡ no_dead }
     ensures text { result.text.items ≡ [] }
 {
-    Told {
+    ToldFinding {
         code,
         dead: NO_DEAD,
         text: Vec::new(alloc),
@@ -169,13 +169,13 @@ const NO_DEAD: Dead = Dead {
 };
 
 /// What is told of a finding.
-fn told_of(alloc: Global, rule: usize, finding: &Finding) -> Result<Told, AllocError>
+fn told_of(alloc: Global, rule: usize, finding: &Finding) -> Result<ToldFinding, AllocError>
     ensures { IfOk result (λ t. (t.code ≡ 0) × (t.dead ≡ told_as rule (parts_of finding.now)) × (t.text.items ≡ texts_of (parts_of finding.now))) }
 {
     let parts = parts_of(finding);
     let mut text = Vec::from_slice(alloc, parts.path.as_bytes())?;
     text.extend_from_slice(parts.folder.as_bytes())?;
-    Ok(Told {
+    Ok(ToldFinding {
         code: 0,
         dead: Dead {
             kind: parts.kind,
@@ -247,7 +247,7 @@ pub fn overruling(kept: &Kept, index: usize, number: usize) -> (u32, usize)
     ensures { TellsOverruling (findings_in kept.now) index number result.0 result.1 }
 {
     let Kept::Findings(found) = kept else {
-        return (Unjudged::Misused.code(), 0);
+        return (Stopped::Misused.code(), 0);
     };
     match overruling_at(found, index, number) {
         Some(rule) => (0, rule),

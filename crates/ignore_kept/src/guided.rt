@@ -1,11 +1,10 @@
 //! A guide for a host that walks by itself, as a handle keeps it.
-ghost use Rattle.std.specs.Prelude.{◌≡◌, [], true, IfOk, Some, string_bytes};
+ghost use Rattle.std.specs.Prelude.{◌≡◌, [], IfOk, Some, string_bytes};
 ghost use Rattle.std.specs.Option.{option_copied};
-ghost use Rattle.ignore_kept.specs.Guides.{AddsPath, OnGuide, Starts, TellsQuestion, TellsWanted, fresh, is_fresh, question_in, question_of, wanted_code};
+ghost use Rattle.ignore_kept.specs.Guides.{Starts, TellsQuestion, TellsWanted, fresh, question_in, question_of, wanted_code};
 ghost use Rattle.ignore_kept.specs.Kinds.{guided_in};
 
 use crate::kept::Kept;
-use crate::room::text_of;
 use crate::setup::Setup;
 use crate::stopped::Stopped;
 use ignore::files::{Env, Name};
@@ -47,8 +46,6 @@ pub struct Reading {
     pub told: Told,
     /// What the host is asked.
     pub question: Question,
-    /// What it is asked afterwards.
-    pub rest: Vec<Question>,
 }
 
 /// A guide with its rules from outside.
@@ -85,7 +82,7 @@ fn started(alloc: Global, setup: &Setup) -> Result<Guided, AllocError>
     Ok(Guided {
         options: setup.options.clone()?,
         env: env_of(alloc, &setup.env)?,
-        paths: Names::new(Vec::new(alloc)),
+        paths: setup.paths.clone()?,
         stage: Stage::Fresh,
     })
 }
@@ -109,39 +106,6 @@ fn copy_of(alloc: Global, name: &Option<Name>) -> Result<Option<Name>, AllocErro
     match name {
         None => Ok(None),
         Some(name) => Ok(Some(Name::from_str(alloc, name.as_str())?)),
-    }
-}
-
-/// Adds a file of rules that is read with the first root.
-#[tactic(auto, using(crate::proofs::Leading::on_guide))]
-pub fn add_path(kept: &mut Kept, path: &[u8]) -> Result<(), Stopped>
-    ensures { OnGuide (AddsPath path.now) kept.old result kept.new }
-{
-    let Kept::Guide(guided) = kept else {
-        return Err(Stopped::Misused);
-    };
-    path_added(guided, path)
-}
-
-fn path_added(guided: &mut Guided, path: &[u8]) -> Result<(), Stopped>
-    ensures { AddsPath path.now guided.old result guided.new }
-{
-    match &guided.stage {
-        Stage::Fresh => push_path(guided, path),
-        Stage::Reading(_) => Err(Stopped::Misused),
-        Stage::Begun(_) => Err(Stopped::Misused),
-    }
-}
-
-fn push_path(guided: &mut Guided, path: &[u8]) -> Result<(), Stopped>
-    ensures { is_fresh guided.old.stage ≡ true → AddsPath path.now guided.old result guided.new }
-{
-    let Ok(path) = text_of(path) else {
-        return Err(Stopped::NotUtf8);
-    };
-    match guided.paths.push(path) {
-        Ok(()) => Ok(()),
-        Err(_) => Err(Stopped::Memory),
     }
 }
 

@@ -5,10 +5,9 @@ ghost use Rattle.ignore_base.specs.Problem.{problem_of};
 ghost use Rattle.ignore_kept.specs.Lines.{Begins, LineAdds, Pushes, FileAdds, Builds, TellsProblem, TellsText, SetsOptions, read_with, source_of};
 
 use crate::kept::{Kept, Lines};
-use crate::refused::Refused;
 use crate::room::text_of;
 use crate::rule::RuleOptions;
-use crate::stopped::is_memory;
+use crate::stopped::{Stopped, is_memory};
 use crate::text::Text;
 use ignore::Error;
 use ignore::gitignore::GitignoreBuilder;
@@ -16,7 +15,7 @@ use std::alloc::{AllocError, Global};
 use std::mem;
 
 /// Rules of a root, without lines.
-pub fn begin(alloc: Global, root: &[u8], options: &RuleOptions) -> Result<Kept, Refused>
+pub fn begin(alloc: Global, root: &[u8], options: &RuleOptions) -> Result<Kept, Stopped>
     ensures { Begins root.now options.now result }
 {
     let root = text_of(root)?;
@@ -50,28 +49,28 @@ fn set(lines: &mut Lines, options: &RuleOptions)
 }
 
 /// Sets how later lines are read.
-pub fn set_options(kept: &mut Kept, options: &RuleOptions) -> Result<(), Refused>
+pub fn set_options(kept: &mut Kept, options: &RuleOptions) -> Result<(), Stopped>
     ensures { SetsOptions kept.old options.now result kept.new }
 {
     let Kept::Lines(lines) = kept else {
-        return Err(Refused::Misused);
+        return Err(Stopped::Misused);
     };
     set(lines, options);
     Ok(())
 }
 
 /// Adds a line. Its source is none where it is empty.
-pub fn add_line(alloc: Global, kept: &mut Kept, from: &[u8], line: &[u8]) -> Result<(), Refused>
+pub fn add_line(alloc: Global, kept: &mut Kept, from: &[u8], line: &[u8]) -> Result<(), Stopped>
     ensures { LineAdds kept.old from.now line.now result kept.new }
 {
     let Kept::Lines(lines) = kept else {
-        return Err(Refused::Misused);
+        return Err(Stopped::Misused);
     };
     let (from, line) = (source(alloc, text_of(from)?)?, text_of(line)?);
     push_line(lines, from, line)
 }
 
-fn push_line(lines: &mut Lines, from: Option<String>, line: &str) -> Result<(), Refused>
+fn push_line(lines: &mut Lines, from: Option<String>, line: &str) -> Result<(), Stopped>
     ensures { Pushes lines.old (option_map string_bytes from) line.now result lines.new }
 {
     match lines.builder.push_line(from, line) {
@@ -81,37 +80,37 @@ fn push_line(lines: &mut Lines, from: Option<String>, line: &str) -> Result<(), 
         }
         Err(error) => {
             if is_memory(&error) {
-                return Err(Refused::Memory);
+                return Err(Stopped::Memory);
             }
             lines.problem = Some(error);
-            Err(Refused::Line)
+            Err(Stopped::Invalid)
         }
     }
 }
 
 /// Adds the lines of a text that stands for the file at a path.
-pub fn add_file(kept: &mut Kept, path: &[u8], text: &[u8]) -> Result<(), Refused>
+pub fn add_file(kept: &mut Kept, path: &[u8], text: &[u8]) -> Result<(), Stopped>
     ensures { FileAdds kept.old path.now text.now result kept.new }
 {
     let Kept::Lines(lines) = kept else {
-        return Err(Refused::Misused);
+        return Err(Stopped::Misused);
     };
     let path = text_of(path)?;
     let text = Text { bytes: text };
     lines.problem = lines.builder.add(&text, path)?;
     match &lines.problem {
         None => Ok(()),
-        Some(_) => Err(Refused::Line),
+        Some(_) => Err(Stopped::Invalid),
     }
 }
 
 /// Makes the matcher of the lines.
-pub fn build(kept: Kept) -> (Kept, Result<(), Refused>)
+pub fn build(kept: Kept) -> (Kept, Result<(), Stopped>)
     ensures { Builds kept result.1 result.0 }
 {
     match kept {
         Kept::Lines(lines) => (Kept::Rules(lines.builder.into_gitignore()), Ok(())),
-        other => (other, Err(Refused::Misused)),
+        other => (other, Err(Stopped::Misused)),
     }
 }
 
@@ -137,7 +136,7 @@ pub fn last_problem(alloc: Global, kept: &Kept) -> Problem
     ensures { TellsProblem kept.now result.code (string_bytes result.text) }
 {
     let Kept::Lines(lines) = kept else {
-        return no_problem(alloc, Refused::Misused.code());
+        return no_problem(alloc, Stopped::Misused.code());
     };
     match &lines.problem {
         Some(error) => told_problem(alloc, error),
@@ -163,7 +162,7 @@ pub(crate) fn told_problem(alloc: Global, error: &Error) -> Problem
     match text_of_error(alloc, error) {
         Ok(text) => Problem { code: 0, text },
         Err(_) => Problem {
-            code: Refused::Memory.code(),
+            code: Stopped::Memory.code(),
             text: String::new(alloc),
         },
     }

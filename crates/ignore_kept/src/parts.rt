@@ -30,7 +30,7 @@ pub struct Part {
 
 /// What C is told: a number, a part, and its texts.
 #[derive(Drop)]
-pub struct Told {
+pub struct ToldPart {
     pub code: u32,
     pub part: Part,
     pub text: Vec<u8>,
@@ -56,7 +56,7 @@ pub struct Leaf<'e> {
 }
 
 /// The part at an index of what is wrong with the directory that came last.
-pub fn problem(alloc: Global, kept: &Kept, index: usize) -> Told
+pub fn problem(alloc: Global, kept: &Kept, index: usize) -> ToldPart
     ensures { TellsParts (guided_in kept.now) index result.code result.part result.text.items }
 {
     let Kept::Guide(guided) = kept else {
@@ -69,7 +69,7 @@ pub fn problem(alloc: Global, kept: &Kept, index: usize) -> Told
 }
 
 /// The part at an index of some.
-fn told_at(alloc: Global, leaves: &[Leaf<'_>], index: usize) -> Told
+fn told_at(alloc: Global, leaves: &[Leaf<'_>], index: usize) -> ToldPart
     ensures { TellsPart (slice_get (map one_of leaves.now) index) result.code result.part result.text.items }
 {
     match leaves.get(index) {
@@ -81,12 +81,12 @@ fn told_at(alloc: Global, leaves: &[Leaf<'_>], index: usize) -> Told
     }
 }
 
-fn untold(alloc: Global, code: u32) -> Told
+fn untold(alloc: Global, code: u32) -> ToldPart
     ensures code { result.code ≡ code }
     ensures part { result.part ≡ no_part }
     ensures text { result.text.items ≡ [] }
 {
-    Told {
+    ToldPart {
         code,
         part: NO_PART,
         text: Vec::new(alloc),
@@ -159,14 +159,14 @@ fn push<'e>(leaves: &mut Vec<Leaf<'e>>, leaf: Leaf<'e>) -> Result<(), AllocError
 }
 
 /// What is told of a part.
-fn told_of(alloc: Global, leaf: Leaf<'_>) -> Result<Told, AllocError>
+fn told_of(alloc: Global, leaf: Leaf<'_>) -> Result<ToldPart, AllocError>
     ensures { IfOk result (λ t. (t.code ≡ 0) × (t.part ≡ told_as (one_of leaf.entry)) × (t.text.items ≡ texts_of (one_of leaf.entry))) }
 {
     let path = leaf.path.unwrap_or("");
     let glob = glob_in(leaf.error);
     let pattern = glob.unwrap_or("");
     let words = words_of(alloc, leaf.error)?;
-    Ok(Told {
+    Ok(ToldPart {
         code: 0,
         part: Part {
             kind: kind_of(leaf.error),

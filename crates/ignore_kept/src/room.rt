@@ -2,19 +2,19 @@
 ghost use Rattle.std.specs.Prelude.{◌≡◌, IfOk, IfErr};
 ghost use Rattle.std.specs.Str.{IsUtf8};
 ghost use Rattle.ignore_kept.specs.Rooms.{put_in};
-ghost use Rattle.ignore_kept.specs.declared.refused.Refused.TheVariants.{NotUtf8};
+ghost use Rattle.ignore_kept.specs.declared.stopped.Stopped.TheVariants.{NotUtf8};
 
-use crate::refused::Refused;
+use crate::stopped::Stopped;
 use std::str;
 
 /// The text of bytes.
-pub fn text_of(bytes: &[u8]) -> Result<&str, Refused>
+pub fn text_of(bytes: &[u8]) -> Result<&str, Stopped>
     ensures value { IfOk result (λ text. text.now ≡ bytes.now) }
     ensures not_utf8 { IfErr result (λ e. (e ≡ NotUtf8) × ¬ (IsUtf8 bytes.now)) }
 {
     match str::from_utf8(bytes) {
         Ok(text) => Ok(text),
-        Err(_) => Err(Refused::NotUtf8),
+        Err(_) => Err(Stopped::NotUtf8),
     }
 }
 

@@ -10,6 +10,7 @@ use ignore::files::{Env, Name};
 use ignore::overrides::OverrideBuilder;
 use ignore::types::TypesBuilder;
 use ignore::{Error, WalkOptions};
+use ignore_dir::Names;
 use std::alloc::{AllocError, Global};
 
 /// The settings of matchers and walks.
@@ -19,6 +20,8 @@ pub struct Setup {
     pub env: Env,
     pub globs: Option<OverrideBuilder>,
     pub types: TypesBuilder,
+    /// Files of rules, by their paths alone, which guides want with their first root.
+    pub paths: Names,
     pub problem: Option<Error>,
 }
 
@@ -29,6 +32,8 @@ pub enum Text {
     Root,
     /// One name more of files of rules.
     Custom,
+    /// One file of rules more, which guides want.
+    File,
     /// The directory that rules from outside are relative to.
     Base,
     /// The working directory.
@@ -59,6 +64,7 @@ pub fn begin(alloc: Global, root: &[u8]) -> Result<Kept, Stopped>
         env: Env::empty(),
         globs: None,
         types: TypesBuilder::new(alloc),
+        paths: Names::new(Vec::new(alloc)),
         problem: None,
     }))
 }
@@ -105,6 +111,10 @@ fn put(alloc: Global, setup: &mut Setup, what: Text, text: &str) -> Result<(), E
     match what {
         Text::Root => setup.options.push_root(text),
         Text::Custom => setup.options.push_custom_ignore_filename(text),
+        Text::File => {
+            setup.paths.push(text)?;
+            Ok(())
+        }
         Text::Base => {
             let dir = String::from_str(alloc, text)?;
             setup.options.current_dir(dir);

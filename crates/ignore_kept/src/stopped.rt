@@ -1,10 +1,9 @@
-//! Why a call on trees, builders, matchers and walks did nothing.
+//! Why a call did nothing, and its number.
 ghost use Rattle.std.specs.Prelude.{◌≡◌};
 ghost use Rattle.ignore_base.specs.Problem.{problem_of};
 ghost use Rattle.ignore_rules.specs.RuleFile.{is_memory};
 ghost use Rattle.ignore_kept.specs.Stops.{ended_code, stop_code, tree_code};
 
-use crate::refused::Refused;
 use ignore::Error;
 use ignore::files::TreeError;
 use ignore::guide::GuideError;
@@ -17,14 +16,19 @@ pub enum Stopped {
     NotUtf8,
     /// Out of memory.
     Memory,
-    /// What is given isn't what it should be: its error says why.
+    /// What is given isn't what it should be, as a line or a file: its error says why; or the check of
+    /// a search over all paths refuses what it left.
     Invalid,
-    /// A handle keeps something else.
+    /// A handle keeps something else, or isn't so far.
     Misused,
+    /// The path isn't below the root.
+    Outside,
     /// The tree isn't changed.
     Tree(TreeError),
     /// A walk took more steps than it may.
     Limit,
+    /// A search over all paths would need more states than it may find.
+    TooLarge,
 }
 
 impl Stopped {
@@ -38,7 +42,9 @@ impl Stopped {
             Stopped::Limit => 6,
             Stopped::Invalid => 7,
             Stopped::Misused => 9,
+            Stopped::Outside => 10,
             Stopped::Tree(error) => tree_code(error),
+            Stopped::TooLarge => 17,
         }
     }
 }
@@ -69,24 +75,6 @@ pub fn done(given: Result<(), Stopped>) -> u32
     match given {
         Ok(()) => 0,
         Err(stopped) => stopped.code(),
-    }
-}
-
-/// Of a text from C.
-impl From<Refused> for Stopped {
-    ghost use Rattle.std.specs.Prelude.{◌≡◌};
-    ghost use Rattle.ignore_kept.specs.Stops.{stopped_by};
-
-    ghost from_gives = { λ refused stopped. stopped ≡ stopped_by refused };
-
-    fn from(refused: Refused) -> Stopped {
-        match refused {
-            Refused::NotUtf8 => Stopped::NotUtf8,
-            Refused::Memory => Stopped::Memory,
-            Refused::Line => Stopped::Invalid,
-            Refused::Misused => Stopped::Misused,
-            Refused::Outside => Stopped::Invalid,
-        }
     }
 }
 

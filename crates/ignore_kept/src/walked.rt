@@ -81,7 +81,7 @@ fn end_of(error: &Error) -> Stopped
 
 /// What C is told of an item: a number, what it is, and its path and the text of its error.
 #[derive(Drop)]
-pub struct Told {
+pub struct ToldItem {
     pub code: u32,
     pub entry: WalkEntry,
     pub text: Vec<u8>,
@@ -89,7 +89,7 @@ pub struct Told {
 
 /// The next item, which is handed out where its texts fit into so many bytes, and else stays the next.
 #[tactic(auto, using(crate::proofs::Listing::nexts))]
-pub fn next(alloc: Global, kept: &mut Kept, room: usize) -> Told
+pub fn next(alloc: Global, kept: &mut Kept, room: usize) -> ToldItem
     ensures { Nexts room kept.old result.code result.entry result.text.items kept.new }
 {
     let Kept::Walk(walk) = kept else {
@@ -99,7 +99,7 @@ pub fn next(alloc: Global, kept: &mut Kept, room: usize) -> Told
 }
 
 #[tactic(auto, using(crate::proofs::Listing::below, crate::proofs::Listing::handed, crate::proofs::Listing::not_handed, crate::proofs::Listing::withheld))]
-fn hand_out(alloc: Global, walk: &mut Walked, room: usize) -> Told
+fn hand_out(alloc: Global, walk: &mut Walked, room: usize) -> ToldItem
     ensures { TellsNext room walk.old (next_of walk.old) result.code result.entry result.text.items walk.new }
 {
     let told = told_next(alloc, walk);
@@ -107,7 +107,7 @@ fn hand_out(alloc: Global, walk: &mut Walked, room: usize) -> Told
         return told;
     }
     if told.text.len() > room {
-        return Told { code: 15, ..told };
+        return ToldItem { code: 15, ..told };
     }
     go_on(walk);
     told
@@ -124,7 +124,7 @@ fn go_on(walk: &mut Walked)
 
 /// What is told of the next item.
 #[tactic(auto, using(crate::proofs::Listing::of_next))]
-fn told_next(alloc: Global, walk: &Walked) -> Told
+fn told_next(alloc: Global, walk: &Walked) -> ToldItem
     ensures { IsNext (next_of walk.now) result.code result.entry result.text.items }
 {
     match walk.items.get(walk.given) {
@@ -136,12 +136,12 @@ fn told_next(alloc: Global, walk: &Walked) -> Told
     }
 }
 
-fn untold(alloc: Global, code: u32) -> Told
+fn untold(alloc: Global, code: u32) -> ToldItem
     ensures code { result.code ≡ code }
     ensures entry { result.entry ≡ no_entry }
     ensures text { result.text.items ≡ [] }
 {
-    Told {
+    ToldItem {
         code,
         entry: NO_ENTRY,
         text: Vec::new(alloc),
@@ -157,7 +157,7 @@ const NO_ENTRY: WalkEntry = WalkEntry {
     is_followed: false,
 };
 
-fn told_item(alloc: Global, item: &Item) -> Result<Told, AllocError>
+fn told_item(alloc: Global, item: &Item) -> Result<ToldItem, AllocError>
     ensures { IfOk result (λ told. (told.code ≡ 0) × TellsItem (item_of item.now) told.entry told.text.items) }
 {
     match item {
@@ -168,7 +168,7 @@ fn told_item(alloc: Global, item: &Item) -> Result<Told, AllocError>
                 error: text.len(),
                 ..NO_ENTRY
             };
-            Ok(Told {
+            Ok(ToldItem {
                 code: 0,
                 entry,
                 text: text.into_bytes(),
@@ -177,12 +177,12 @@ fn told_item(alloc: Global, item: &Item) -> Result<Told, AllocError>
     }
 }
 
-fn told_entry(alloc: Global, entry: &DirEntry) -> Result<Told, AllocError>
+fn told_entry(alloc: Global, entry: &DirEntry) -> Result<ToldItem, AllocError>
     ensures { IfOk result (λ told. (told.code ≡ 0) × TellsItem (Ok (entry_of entry.now, problem_in entry.now)) told.entry told.text.items) }
 {
     let error = error_text(alloc, entry)?;
     let text = joined(alloc, entry.path(), error.as_str())?;
-    Ok(Told {
+    Ok(ToldItem {
         code: 0,
         entry: WalkEntry {
             path: entry.path().len(),

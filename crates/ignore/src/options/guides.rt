@@ -3,14 +3,16 @@ ghost use Rattle.std.specs.Prelude.{◌≡◌, IfOk, IfErr, None};
 ghost use Rattle.ignore_base.specs.Problem.{problem_of, memory};
 ghost use Rattle.ignore_files.specs.Gives.{IsHonest};
 ghost use Rattle.ignore_files.specs.Tree.{Tree};
+ghost use Rattle.ignore_guide.specs.Asking.{first_unread};
 ghost use Rattle.ignore_guide.specs.Places.{entered_at};
 ghost use Rattle.ignore_guide.specs.declared.places.Place.{Place};
 ghost use Rattle.ignore.specs.Asked.{IsOutside, IsOutsideBy};
+ghost use Rattle.ignore.specs.AskedNext.{AsksFile, AsksGlobal, AsksNext};
 
 use crate::options::WalkOptions;
 use ignore_base::Error;
 use ignore_files::{Env, Files, Name};
-use ignore_guide::internal::{missing_files, missing_outside};
+use ignore_guide::internal::{next_file, next_outside};
 use ignore_guide::{Guide, Question, Told};
 use std::alloc::AllocError;
 
@@ -33,27 +35,50 @@ impl WalkOptions {
         Ok(Guide::new(self.settings.allocator(), settings, outside))
     }
 
-    /// What a host is still to be asked before the files of rules at these paths can be added, and
-    /// then the guide be made, by what it told. For dependents.
+    /// What a host is to be asked next before the files of rules at these paths can be added, and then
+    /// the guide be made, by what it told: those files in their order, and then what leads to git's
+    /// global file, and that; nothing where no directory is known that they are relative to. For
+    /// dependents.
     ///
     /// # Errors
     /// Out of memory.
-    pub fn missing_for_guide(
+    pub fn next_for_guide(
         &self,
         told: &Told,
         env: &Env,
         paths: &[Name],
-    ) -> Result<Vec<Question>, AllocError> {
-        let alloc = self.settings.allocator();
-        if self.base_dir(env).is_none() {
-            return Ok(Vec::new(alloc));
+    ) -> Result<Option<Question>, AllocError>
+        ensures { IfOk result (λ q. AsksNext told.now env.now self.now paths.now q) }
+    {
+        match self.base_dir(env) {
+            None => Ok(None),
+            Some(_) => self.next_known(told, env, paths),
         }
-        let mut missing = if self.settings.get().git_global {
-            missing_outside(alloc, told, env)?
-        } else {
-            Vec::new(alloc)
-        };
-        missing_files(alloc, told, paths, &mut missing)?;
-        Ok(missing)
+    }
+
+    /// The same where a directory is known that rules from outside are relative to.
+    fn next_known(
+        &self,
+        told: &Told,
+        env: &Env,
+        paths: &[Name],
+    ) -> Result<Option<Question>, AllocError>
+        ensures { IfOk result (λ q. AsksFile told.now env.now self.now.settings.git_global (first_unread told.now paths.now) q) }
+    {
+        let next = next_file(self.settings.allocator(), told, paths)?;
+        match next {
+            Some(question) => Ok(Some(question)),
+            None => self.next_global(told, env),
+        }
+    }
+
+    /// What leads to git's global file, where that is asked for.
+    fn next_global(&self, told: &Told, env: &Env) -> Result<Option<Question>, AllocError>
+        ensures { IfOk result (λ q. AsksGlobal told.now env.now self.now.settings.git_global q) }
+    {
+        if !self.settings.get().git_global {
+            return Ok(None);
+        }
+        next_outside(self.settings.allocator(), told, env)
     }
 }

@@ -6,4 +6,4 @@ pub returns-in-Ok-clause-found : goal.returns-in-Ok-clause-found
 returns-in-Ok-clause-found c = (Ok c.in-Ok.kept.value, c.in-Ok.ensures.1.0, refl)
 
 pub returns-in-Err-clause-found : goal.returns-in-Err-clause-found
-returns-in-Err-clause-found c = (Err c.in-Err.unjudged, c.in-Err.ensures.1.1, c.code.ensures)
+returns-in-Err-clause-found c = (Err c.in-Err.stopped, c.in-Err.ensures.1.1, c.code.ensures)

@@ -8,4 +8,4 @@ returns-in-Ok c = (Ok c.in-Ok.kept.value, c.in-Ok.ensures.begun, refl)
 
 -- src/rules.rt:48:1
 pub returns-in-Err : goal.returns-in-Err
-returns-in-Err c = (Err c.in-Err.refused, c.in-Err.ensures.refused, c.code.ensures)
+returns-in-Err c = (Err c.in-Err.stopped, c.in-Err.ensures.refused, c.code.ensures)

@@ -9,4 +9,4 @@ returns-in-Ok c = (Ok (match_map (λ g. g.now) c.in-Ok.found), c.in-Ok.ensures.a
 
 -- src/ask.rt:60:1
 pub returns-in-Err : goal.returns-in-Err
-returns-in-Err c = (Err c.in-Err.refused, c.in-Err.ensures.refused, c.code.ensures)
+returns-in-Err c = (Err c.in-Err.stopped, c.in-Err.ensures.refused, c.code.ensures)

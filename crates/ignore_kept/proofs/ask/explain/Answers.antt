@@ -1,7 +1,7 @@
 -- What the rules say is told by its number, and by the rule that decided.
 use Rattle.std.proofs.Common.{Ok, Err}
 use Rattle.ignore_base.specs.Match.{match_map}
-use Rattle.ignore_kept.specs.declared.refused.Refused.TheVariants.{Memory}
+use Rattle.ignore_kept.specs.declared.stopped.Stopped.TheVariants.{Memory}
 use Rattle.ignore_kept.proofs.ask.explain.Goals as goal
 
 -- src/ask.rt:70:1
@@ -15,4 +15,4 @@ returns-in-Err-text_of_match c = (Err Memory, tt, c.untold.ensures.code, c.untol
 
 -- src/ask.rt:70:1
 pub returns-in-Err : goal.returns-in-Err
-returns-in-Err c = (Err c.in-Err.refused, c.in-Err.ensures.refused, c.untold-in-Err.ensures.code, c.untold-in-Err.ensures.reason, c.untold-in-Err.ensures.text)
+returns-in-Err c = (Err c.in-Err.stopped, c.in-Err.ensures.refused, c.untold-in-Err.ensures.code, c.untold-in-Err.ensures.reason, c.untold-in-Err.ensures.text)

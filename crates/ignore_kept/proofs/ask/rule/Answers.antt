@@ -1,7 +1,7 @@
 -- The rule is told by its number, its parts and its texts.
 use Rattle.std.proofs.Common.{Ok, Err}
 use Rattle.ignore_base.specs.Match.{match_map}
-use Rattle.ignore_kept.specs.declared.refused.Refused.TheVariants.{Memory}
+use Rattle.ignore_kept.specs.declared.stopped.Stopped.TheVariants.{Memory}
 use Rattle.ignore_kept.proofs.ask.rule.Goals as goal
 
 pub returns-in-Ok-text_of_match : goal.returns-in-Ok-text_of_match
@@ -12,4 +12,4 @@ pub returns-in-Err-text_of_match : goal.returns-in-Err-text_of_match
 returns-in-Err-text_of_match c = (Err Memory, tt, c.untold.ensures.code, c.untold.ensures.reason, c.untold.ensures.text)
 
 pub returns-in-Err : goal.returns-in-Err
-returns-in-Err c = (Err c.in-Err.refused, c.in-Err.ensures.refused, c.untold-in-Err.ensures.code, c.untold-in-Err.ensures.reason, c.untold-in-Err.ensures.text)
+returns-in-Err c = (Err c.in-Err.stopped, c.in-Err.ensures.refused, c.untold-in-Err.ensures.code, c.untold-in-Err.ensures.reason, c.untold-in-Err.ensures.text)
