@@ -2,3 +2,4 @@
 
 pub use crate::by_name::ByName;
 pub use crate::listing::trimmed_roots;
+pub use crate::writing::write_whole;

@@ -7,6 +7,7 @@ mod by_name;
 mod checking;
 pub mod internal;
 mod listing;
+mod output;
 mod program;
 pub mod run;
 mod stop;
@@ -14,6 +15,7 @@ mod words;
 mod world;
 mod writing;
 
+pub use output::Output;
 pub use program::{run_buffered, words_after_name};
 pub use stop::{Stop, report_stop};
 pub use world::World;

@@ -12,10 +12,11 @@ ghost use Rattle.ignore.specs.Asked.{IsOutside};
 ghost use Rattle.ignore.specs.Builder.{unset};
 ghost use Rattle.ignore_walk.specs.declared.entry.DirEntry.{DirEntry};
 ghost use Rattle.commands.specs.Listing.{IsOf, Lists, report_line, lines_of, reports_of, is_reported};
-ghost use Rattle.commands.specs.Stops.{EndsAfter, EndsReportedAfter, EndsUnreportedAfter};
+ghost use Rattle.commands.specs.Stops.{EndsAfter, EndsReportedAfter, EndsUnreportedAfter, SaidBy};
 ghost use Rattle.commands.specs.Walking.{AreBegun, AreListed, IsTrimmed};
 
 use crate::by_name::ByName;
+use crate::output::Output;
 use crate::stop::{Stop, report_stop};
 use crate::world::World;
 use crate::writing::write_line;
@@ -40,7 +41,7 @@ const OPTIONS: Options = Options {
 ///
 /// # Errors
 /// Why the run ended, where that can't be written to `err`.
-pub fn list<F: Files, W: Write, E: Write>(
+pub fn list<F: Files, W: Output, E: Write>(
     world: &World<'_, F>,
     roots: &[String],
     out: &mut W,
@@ -49,7 +50,7 @@ pub fn list<F: Files, W: Write, E: Write>(
     ensures lists { IfOk result (λ status. ((items : List Item) × Lists items status
         (Appends (W.contents out.old) (W.contents out.new)) (Appends (E.contents err.old) (E.contents err.new))
         × ((tree : Tree) → IsHonest F.Files world.now.files.now tree → AreListed tree world.now.env.now (map string_bytes roots.now) items))
-        ⊎ ((status ≡ 2) × (items : List Item) × (next : Option Item) × EndsReportedAfter lines_of reports_of items next
+        ⊎ ((status ≡ 2) × (items : List Item) × (next : Option Item) × EndsReportedAfter (SaidBy (W.fails out.new)) lines_of reports_of items next
         (Appends (W.contents out.old) (W.contents out.new)) (Appends (E.contents err.old) (E.contents err.new))
         × ((tree : Tree) → IsHonest F.Files world.now.files.now tree → AreBegun tree world.now.env.now (map string_bytes roots.now) items next))) }
     ensures unreported { IfErr result (λ stop. (items : List Item) × (next : Option Item)
@@ -57,6 +58,7 @@ pub fn list<F: Files, W: Write, E: Write>(
         (Appends (E.contents err.old) (E.contents err.new)) stop
         × ((tree : Tree) → IsHonest F.Files world.now.files.now tree → AreBegun tree world.now.env.now (map string_bytes roots.now) items next)) }
     ensures status { IfOk result (λ status. status ≤ 2) }
+    ensures said { IfErr result (SaidBy (W.fails out.new)) }
 {
     match walk_and_write(world, roots, out, err) {
         Ok(false) => Ok(0),
@@ -66,7 +68,7 @@ pub fn list<F: Files, W: Write, E: Write>(
 }
 
 /// Walks and writes. It returns whether something was reported.
-fn walk_and_write<F: Files, W: Write, E: Write>(
+fn walk_and_write<F: Files, W: Output, E: Write>(
     world: &World<'_, F>,
     roots: &[String],
     out: &mut W,
@@ -78,6 +80,7 @@ fn walk_and_write<F: Files, W: Write, E: Write>(
     ensures ended { IfErr result (λ stop. (items : List Item) × (next : Option Item) × EndsAfter lines_of reports_of items next
         (Appends (W.contents out.old) (W.contents out.new)) (Appends (E.contents err.old) (E.contents err.new)) stop
         × ((tree : Tree) → IsHonest F.Files world.now.files.now tree → AreBegun tree world.now.env.now (map string_bytes roots.now) items next)) }
+    ensures said { IfErr result (SaidBy (W.fails out.new)) }
 {
     let Ok(names) = trimmed_roots(world.alloc, roots) else {
         return Err(Stop::Memory);
@@ -131,7 +134,7 @@ fn trimmed(root: &str) -> &str
 }
 
 /// Writes the items of a walk. It returns whether something was reported.
-fn write_items<I: Iterator<Item = Item>, W: Write, E: Write>(
+fn write_items<I: Iterator<Item = Item>, W: Output, E: Write>(
     items: I,
     out: &mut W,
     err: &mut E,
@@ -143,6 +146,7 @@ fn write_items<I: Iterator<Item = Item>, W: Write, E: Write>(
         × YieldsThen I.next_gives items all (Some x) v × (next : Option Item) × IsOf (item_of x) next
         × EndsAfter lines_of reports_of (map item_of all) next
         (Appends (W.contents out.old) (W.contents out.new)) (Appends (E.contents err.old) (E.contents err.new)) stop) }
+    ensures said { IfErr result (SaidBy (W.fails out.new)) }
 {
     let mut any = false;
     for item in items {
@@ -153,7 +157,7 @@ fn write_items<I: Iterator<Item = Item>, W: Write, E: Write>(
 
 /// Writes an item. It returns whether something was reported.
 #[tactic(auto, using(crate::proofs::ItemLemmas::ends_at))]
-fn write_item<W: Write, E: Write>(item: Item, out: &mut W, err: &mut E) -> Result<bool, Stop>
+fn write_item<W: Output, E: Write>(item: Item, out: &mut W, err: &mut E) -> Result<bool, Stop>
     ensures lists { IfOk result (λ any. Appends (W.contents out.old) (W.contents out.new) (lines_of (item_of item))
         × Appends (E.contents err.old) (E.contents err.new) (reports_of (item_of item)) × (any ≡ is_reported (item_of item))) }
     ensures enough { OnOk result (item_of item ≢ Err memory) }
@@ -162,6 +166,7 @@ fn write_item<W: Write, E: Write>(item: Item, out: &mut W, err: &mut E) -> Resul
     ensures ended { IfErr result (λ stop. (next : Option Item) × IsOf (item_of item) next
         × EndsAfter lines_of reports_of [] next (Appends (W.contents out.old) (W.contents out.new))
         (Appends (E.contents err.old) (E.contents err.new)) stop) }
+    ensures said { IfErr result (SaidBy (W.fails out.new)) }
 {
     match item {
         Ok(entry) => write_entry(&entry, out, err),
@@ -186,13 +191,14 @@ fn report_problem<E: Write>(error: &Error, err: &mut E) -> Result<bool, Stop>
 }
 
 /// Writes the path of an entry, and reports its problem, if it has one. It returns whether it has.
-fn write_entry<W: Write, E: Write>(entry: &DirEntry, out: &mut W, err: &mut E) -> Result<bool, Stop>
+fn write_entry<W: Output, E: Write>(entry: &DirEntry, out: &mut W, err: &mut E) -> Result<bool, Stop>
     ensures lists { IfOk result (λ any. Appends (W.contents out.old) (W.contents out.new) (lines_of (item_of (Ok entry.now)))
         × Appends (E.contents err.old) (E.contents err.new) (reports_of (item_of (Ok entry.now)))
         × (any ≡ is_reported (item_of (Ok entry.now)))) }
     ensures ended { IfErr result (EndsAfter lines_of reports_of [] (Some (item_of (Ok entry.now)))
         (Appends (W.contents out.old) (W.contents out.new)) (Appends (E.contents err.old) (E.contents err.new))) }
     ensures enough { IfErr result (λ stop. stop ≢ Stop.Memory) }
+    ensures said { IfErr result (SaidBy (W.fails out.new)) }
 {
     write_line(entry.path(), out)?;
     match entry.error() {

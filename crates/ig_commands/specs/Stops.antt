@@ -47,6 +47,25 @@ abbrev pub read_stop : ErrorKind → Stop
 read_stop OutOfMemory = Memory
 read_stop _ = Read
 
+-- why a command ends is what its output said: it fails by an error of this kind
+abbrev pub SaidBy : (ErrorKind → Type 0) → Stop → Type 0
+SaidBy fails Memory = ⊤
+SaidBy fails Read = ⊤
+SaidBy fails (Write Full) = fails StorageFull
+SaidBy fails (Write Quota) = fails QuotaExceeded
+SaidBy fails (Write TooLarge) = fails FileTooLarge
+SaidBy fails (Write Other) = (kind : ErrorKind) × fails kind
+SaidBy fails Closed = fails BrokenPipe
+SaidBy fails Silence = ⊤
+
+-- it isn't the output that ended it
+abbrev pub IsOther : Stop → Type 0
+IsOther Memory = ⊤
+IsOther Read = ⊤
+IsOther (Write why) = ⊥
+IsOther Closed = ⊥
+IsOther Silence = ⊤
+
 -- a command ended early, at one more thing to write, after these bytes were written and these
 -- reported: out of memory, with nothing more written or reported; by a failed write or a closed
 -- pipe, with nothing more reported; or by a report that can't be written

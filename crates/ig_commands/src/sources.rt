@@ -5,6 +5,7 @@ ghost use Rattle.ignore_base.specs.Problem.{Problem, memory, problem_of};
 ghost use Rattle.ig_commands.specs.Lint.{given_path, given_paths};
 ghost use Rattle.ig_commands.specs.Listing.{RefusesOptions};
 ghost use Rattle.ig_commands.specs.Reports.{report_line};
+ghost use Rattle.ig_commands.specs.Stops.{IsOther};
 
 use crate::asking::{Asked, asked_met};
 use crate::ignored::{matchers_of, note_item};
@@ -75,8 +76,9 @@ pub(crate) fn find_sources<F: Files, E: Write>(
     first: TypesBuilder,
     err: &mut E,
 ) -> Result<Option<Sources>, Stop>
-    ensures { IfOk result (λ found. found ≡ None → (problem : Problem) × RefusesOptions world.now.env.now options.now first problem
+    ensures refused { IfOk result (λ found. found ≡ None → (problem : Problem) × RefusesOptions world.now.env.now options.now first problem
         × Appends (E.contents err.old) (E.contents err.new) (report_line problem)) }
+    ensures other { IfErr result IsOther }
 {
     let named = Noted::new(world.alloc, world.files);
     match ask_noted(world, &named, options, first) {
@@ -116,7 +118,9 @@ fn survey_asked<F: Files, E: Write>(
     asked: Asked,
     outside: Vec<Name>,
     err: &mut E,
-) -> Result<Sources, Stop> {
+) -> Result<Sources, Stop>
+    ensures { IfErr result IsOther }
+{
     let Asked { walk, errors } = asked;
     let reported = report_unread(&errors, err)?;
     let mut sources = Sources {
@@ -130,7 +134,9 @@ fn survey_asked<F: Files, E: Write>(
 
 /// Reports of the files that are named those that can't be read, and returns how many these are. What
 /// is wrong with the lines of the others is found as of any file.
-fn report_unread<E: Write>(errors: &[Option<Error>], err: &mut E) -> Result<u64, Stop> {
+fn report_unread<E: Write>(errors: &[Option<Error>], err: &mut E) -> Result<u64, Stop>
+    ensures { IfErr result IsOther }
+{
     let mut count = 0u64;
     for error in errors {
         if let Some(error) = error {
@@ -166,7 +172,9 @@ fn survey_sources<F: Files, E: Write>(
     walk: WalkOptions,
     sources: &mut Sources,
     err: &mut E,
-) -> Result<(), Stop> {
+) -> Result<(), Stop>
+    ensures { IfErr result IsOther }
+{
     let noted = Noted::new(world.alloc, world.files);
     let noting = World {
         alloc: world.alloc,
@@ -187,7 +195,9 @@ fn survey_worktree<F: Files, E: Write>(
     walk: WalkOptions,
     sources: &mut Sources,
     err: &mut E,
-) -> Result<(), Stop> {
+) -> Result<(), Stop>
+    ensures { IfErr result IsOther }
+{
     let Ok(roots) = roots_of(world.alloc, options) else {
         return Err(Stop::Memory);
     };
@@ -216,7 +226,9 @@ fn survey_root<F: Files, E: Write>(
     matcher: IncrementalIgnore,
     sources: &mut Sources,
     err: &mut E,
-) -> Result<(), Stop> {
+) -> Result<(), Stop>
+    ensures { IfErr result IsOther }
+{
     let Ok(survey) = Survey::new(world.alloc, world.files, matcher) else {
         return Err(Stop::Memory);
     };
@@ -239,7 +251,9 @@ fn add_met(
     options: &Options,
     entry: &Surveyed,
     sources: &mut Sources,
-) -> Result<(), Stop> {
+) -> Result<(), Stop>
+    ensures { IfErr result IsOther }
+{
     let path = entry.path.as_str();
     if entry.file_type.is_dir() || !is_of_rules(options, path) {
         return Ok(());

@@ -59,7 +59,7 @@ pub returns-in_default-clause-ended : goal.returns-in_default-clause-ended
 returns-in_default-clause-ended g c = (
   [],
   None,
-  (appends_nothing (g.W.Write.contents c.args.out.now), appends_nothing (g.E.Write.contents c.args.err.now)),
+  (appends_nothing (g.W.Output.contents c.args.out.now), appends_nothing (g.E.Write.contents c.args.err.now)),
   λ tree honest. inl (refl, refl),
 )
 
@@ -67,6 +67,6 @@ pub returns-in_default-outside_of-clause-ended : goal.returns-in_default-outside
 returns-in_default-outside_of-clause-ended g c = (
   [],
   None,
-  (appends_nothing (g.W.Write.contents c.args.out.now), appends_nothing (g.E.Write.contents c.args.err.now)),
+  (appends_nothing (g.W.Output.contents c.args.out.now), appends_nothing (g.E.Write.contents c.args.err.now)),
   λ tree honest. inl (refl, refl),
 )

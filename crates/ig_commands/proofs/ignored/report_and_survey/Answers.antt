@@ -28,7 +28,7 @@ pub returns-in_default-clause-ended : goal.returns-in_default-clause-ended
 returns-in_default-clause-ended g c = (
   [],
   (
-    appends_nothing (g.W.Write.contents c.args.out.now),
+    appends_nothing (g.W.Output.contents c.args.out.now),
     subst (Appends (g.E.Write.contents c.args.err.now) (g.E.Write.contents c.report_all.new.err))
         (sym (append-nil (flat_map report_of (map (option_map problem_of) c.args.asked.errors.items))))
         (reported_as c.deref.result.now c.args.asked.errors.items (g.E.Write.contents c.args.err.now) (g.E.Write.contents c.report_all.new.err) c.deref.ensures.value c.in_ok-reported.ensures.reports.1),
@@ -46,7 +46,7 @@ returns-in_err-counts-clause-ended g c =
     rw (p.1, p.2) (
       all,
       ends_after_reports (all_written o all) (flat_map report_of (map (option_map problem_of) c.args.asked.errors.items))
-          (begun_told o (all_met all)) (Appends (g.W.Write.contents c.args.out.now) (g.W.Write.contents c.survey_all.new.out))
+          (begun_told o (all_met all)) (Appends (g.W.Output.contents c.args.out.now) (g.W.Output.contents c.survey_all.new.out))
           (g.E.Write.contents c.args.err.now) (g.E.Write.contents c.report_all.new.err) (g.E.Write.contents c.survey_all.new.err)
           c.in_err-counts.field-0.0 (reported_as c.deref.result.now c.args.asked.errors.items (g.E.Write.contents c.args.err.now) (g.E.Write.contents c.report_all.new.err) c.deref.ensures.value c.in_ok-reported.ensures.reports.1) h.8,
       (λ tree honest none.

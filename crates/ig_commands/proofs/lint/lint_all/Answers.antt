@@ -8,10 +8,10 @@ use Rattle.ig_commands.specs.Lint.{is_found, is_reported, lint_status, look_text
 use Rattle.ig_commands.proofs.LintLemmas.{looks_then, may_be}
 use Rattle.ig_commands.proofs.lint.lint_all.Goals as goal
 
-pub returns : goal.returns
-returns g c =
-    let f = c.in_ok-first.ensures in
-    let r = c.in_ok-rest.ensures in
+pub returns-clause-lints : goal.returns-clause-lints
+returns-clause-lints g c =
+    let f = c.in_ok-first.ensures.lints in
+    let r = c.in_ok-rest.ensures.lints in
     let o = c.args.how.options.now in
     let json = c.args.how.json in
     let any = c.is_any.result in
@@ -24,8 +24,8 @@ returns g c =
       any,
       c.status_by.ensures
           ∙ (ap (λ b. lint_status (any || b) c.and-seen.result.found) reported ∙ ap (λ b. lint_status (any || list_any is_reported (f.0 ++ r.0)) b) found),
-      subst (Appends (g.W.Write.contents c.args.out.now) (g.W.Write.contents c.look_at-2.new.out)) (sym (flat_map-append (look_text o json) f.0 r.0))
-          (appends_on (g.W.Write.contents c.args.out.now) (g.W.Write.contents c.look_at.new.out) (g.W.Write.contents c.look_at-2.new.out) (flat_map (look_text o json) f.0)
+      subst (Appends (g.W.Output.contents c.args.out.now) (g.W.Output.contents c.look_at-2.new.out)) (sym (flat_map-append (look_text o json) f.0 r.0))
+          (appends_on (g.W.Output.contents c.args.out.now) (g.W.Output.contents c.look_at.new.out) (g.W.Output.contents c.look_at-2.new.out) (flat_map (look_text o json) f.0)
           (flat_map (look_text o json) r.0) f.3 r.3),
       λ tree honest. looks_then tree o c.as_slice-above.result.now c.as_slice-met.result.now f.0 r.0
           (may_be tree o false c.as_slice-above.result.now f.0 (f.5 tree honest))

@@ -4,9 +4,9 @@ use Rattle.ignore_base.specs.Text.{Path}
 use Rattle.ig_commands.specs.Lint.{IsLook, is_reported, lint_status}
 use Rattle.ig_commands.proofs.lint.lint_given.Goals as goal
 
-pub returns : goal.returns
-returns g c =
-    let h = c.in_ok-seen.ensures in
+pub returns-clause-lints : goal.returns-clause-lints
+returns-clause-lints g c =
+    let h = c.in_ok-seen.ensures.lints in
     let seen = c.in_ok-seen.seen in (
       h.0,
       record {

@@ -13,7 +13,7 @@ loop-path-init g c = (
   [],
   refl,
   refl,
-  appends_nothing (g.W.Write.contents c.args.out.now),
+  appends_nothing (g.W.Output.contents c.args.out.now),
   appends_nothing (g.E.Write.contents c.args.err.now),
   λ tree honest. tt,
 )
@@ -22,7 +22,7 @@ pub loop-path-preserved : goal.loop-path-preserved
 loop-path-preserved g c =
     let l = c.loop-path in
     let so = l.invariant in
-    let more = c.in_ok-more.ensures in
+    let more = c.in_ok-more.ensures.lints in
     let o = c.args.all.now.how.options.now in
     let json = c.args.all.now.how.json in (
       so.0 ++ more.0 ∷ [],
@@ -35,8 +35,8 @@ loop-path-preserved g c =
           (subst (λ (p : Path). IsLook tree o c.args.all.now.may_note p more.0) c.as_str.ensures (more.5 tree honest)),
     )
 
-pub returns : goal.returns
-returns g c =
+pub returns-clause-lints : goal.returns-clause-lints
+returns-clause-lints g c =
     let so = c.loop-path.invariant in (
       so.0,
       so.1,

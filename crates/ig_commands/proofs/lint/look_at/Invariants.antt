@@ -10,6 +10,6 @@ use Rattle.ig_commands.proofs.lint.look_at.Given as goal
 abbrev pub invariant-loop-path : goal.invariant-loop-path
 invariant-loop-path g l =
     (looks : List Look) × (l.seen.reported ≡ list_any is_reported looks) × (l.seen.found ≡ list_any is_found looks)
-    × Appends (g.W.Write.contents l.fn.out) (g.W.Write.contents l.out) (flat_map (look_text l.all.how.options.now l.all.how.json) looks)
+    × Appends (g.W.Output.contents l.fn.out) (g.W.Output.contents l.out) (flat_map (look_text l.all.how.options.now l.all.how.json) looks)
     × Appends (g.E.Write.contents l.fn.err) (g.E.Write.contents l.err) (flat_map look_report looks)
     × ((tree : Tree) → IsHonest g.F.Files l.all.world.now.files.now tree → AllZip (IsLook tree l.all.how.options.now l.all.may_note) (take l.path-index l.paths) looks)

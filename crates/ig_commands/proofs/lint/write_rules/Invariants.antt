@@ -9,4 +9,4 @@ use Rattle.ig_commands.proofs.lint.write_rules.Given as goal
 abbrev pub invariant-loop-judged : goal.invariant-loop-judged
 invariant-loop-judged g l =
     (told : List (Option Diagnostic)) × AllZip IsTold (take l.judged-index l.rules) told × (l.any ≡ list_any is_some told)
-    × Appends (g.W.Write.contents l.fn.out) (g.W.Write.contents l.out) (flat_map (option_text l.all.how.options.now l.all.how.json l.path) told)
+    × Appends (g.W.Output.contents l.fn.out) (g.W.Output.contents l.out) (flat_map (option_text l.all.how.options.now l.all.how.json l.path) told)

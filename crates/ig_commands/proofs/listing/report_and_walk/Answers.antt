@@ -41,7 +41,7 @@ returns-in_err-counts-clause-ended g c =
     rw (p.1, p.2) (
       h.0,
       ends_after_reports (flat_map (lines_of c.args.options.now) h.0) (flat_map report_of problems) (first_reports c.args.options.now h.0)
-          (Appends (g.W.Write.contents c.args.out.now) (g.W.Write.contents c.walk_and_write.new.out)) (g.E.Write.contents c.args.err.now)
+          (Appends (g.W.Output.contents c.args.out.now) (g.W.Output.contents c.walk_and_write.new.out)) (g.E.Write.contents c.args.err.now)
           (g.E.Write.contents c.report_all.new.err) (g.E.Write.contents c.walk_and_write.new.err) c.in_err-counts.field-0.0
           (reported_as c.deref.result.now c.args.asked.errors.items _ _ c.deref.ensures.value c.in_ok-reported.ensures.reports.1) h.1,
       h.2,

@@ -83,7 +83,7 @@ returns-in_err-end_names-clause-ended g c =
 pub returns-in_default-clause-ended : goal.returns-in_default-clause-ended
 returns-in_default-clause-ended g c = (
   [],
-  (appends_nothing (g.W.Write.contents c.args.out.now), appends_nothing (g.E.Write.contents c.args.err.now)),
+  (appends_nothing (g.W.Output.contents c.args.out.now), appends_nothing (g.E.Write.contents c.args.err.now)),
   λ so. inl refl,
   λ tree honest. inl refl,
 )

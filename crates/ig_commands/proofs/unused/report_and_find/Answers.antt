@@ -32,7 +32,7 @@ returns-in_default-clause-ended g c = (
   [],
   false,
   (
-    appends_nothing (g.W.Write.contents c.args.out.now),
+    appends_nothing (g.W.Output.contents c.args.out.now),
     subst (Appends (g.E.Write.contents c.args.err.now) (g.E.Write.contents c.report_all.new.err))
         (sym (append-nil (flat_map report_of (map (option_map problem_of) c.args.asked.errors.items))))
         (reported_as c.deref.result.now c.args.asked.errors.items (g.E.Write.contents c.args.err.now) (g.E.Write.contents c.report_all.new.err) c.deref.ensures.value c.in_ok-reported.ensures.reports.1),
@@ -45,7 +45,7 @@ returns-in_err-more-clause-ended g c =
     let h = c.in_err-more.ensures.ended in
     let all = met h.0 ++ h.1 ∷ [] in
     let o = c.args.options.now in
-    let out = g.W.Write.contents c.args.out.now in
+    let out = g.W.Output.contents c.args.out.now in
     let p = err_from_is_err_and c.from_residual-in_err-more.result c.from_residual-in_err-more.ensures.1 in
     rw (p.1, p.2) (
       all,
@@ -86,7 +86,7 @@ returns-in_err-unused-clause-ended g c =
       met h.0,
       true,
       ends_write (flat_map report_of problems ++ all_told o (met h.0))
-          (Appends (g.W.Write.contents c.args.out.now) (g.W.Write.contents c.write_without.new.out))
+          (Appends (g.W.Output.contents c.args.out.now) (g.W.Output.contents c.write_without.new.out))
           (Appends (g.E.Write.contents c.args.err.now) (g.E.Write.contents c.find_all.new.err)) c.in_err-unused.field-0.0 c.in_err-unused.ensures.ended
           (appends_on (g.E.Write.contents c.args.err.now) (g.E.Write.contents c.report_all.new.err) (g.E.Write.contents c.find_all.new.err)
           (flat_map report_of problems) (all_told o (met h.0))
@@ -120,7 +120,7 @@ returns-clause-lists g c =
       met h.0,
       w.0,
       record {
-        writes = written_as o w.0 _ _ (g.W.Write.contents c.args.out.now) (g.W.Write.contents c.write_without.new.out) c.form_of.ensures.base c.form_of.ensures.null w.3;
+        writes = written_as o w.0 _ _ (g.W.Output.contents c.args.out.now) (g.W.Output.contents c.write_without.new.out) c.form_of.ensures.base c.form_of.ensures.null w.3;
         reports = counts_told o.stats (flat_map report_of problems ++ all_told o (met h.0)) _ _ _ _ (g.E.Write.contents c.args.err.now)
             (g.E.Write.contents c.find_all.new.err) (g.E.Write.contents c.report_counts.new.err)
             (appends_on (g.E.Write.contents c.args.err.now) (g.E.Write.contents c.report_all.new.err) (g.E.Write.contents c.find_all.new.err) (flat_map report_of problems) (all_told o (met h.0))
