@@ -4,7 +4,7 @@ use Rattle.std.proofs.Common.{◌≡◌, [], None, Some, true, false, refl, code
 use Rattle.ignore_base.specs.declared.match_result.Match.{Match}
 use Rattle.ignore_guide.specs.Guide.{is_over}
 use Rattle.ignore_guide.specs.Names.{is_name}
-use Rattle.ignore_guide.specs.Places.{dir_by}
+use Rattle.ignore_guide.specs.Spots.{dir_by}
 use Rattle.ignore_guide.specs.Reasons.{why_within}
 use Rattle.ignore_guide.specs.declared.places.Entered.{Entered}
 use Rattle.ignore_guide.specs.declared.places.Held.TheVariants.{Entered as Holds, Free}

@@ -1,7 +1,10 @@
 pub mod Asking
+pub mod Forest
 pub mod Guide
 pub mod Hosted
 pub mod Names
 pub mod Places
 pub mod Reasons
+pub mod Settle
+pub mod Spots
 pub mod Told

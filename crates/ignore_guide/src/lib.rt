@@ -13,6 +13,7 @@ pub mod laws;
 mod missing;
 mod open;
 mod places;
+mod settle;
 mod survey;
 mod told;
 
