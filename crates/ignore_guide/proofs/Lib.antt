@@ -1,9 +1,12 @@
 pub mod AskLemmas
 pub mod EnterLemmas
+pub mod ForestLemmas
 pub mod FreeLemmas
 pub mod HostLemmas
 pub mod LawLemmas
 pub mod NameLemmas
+pub mod PlaceLemmas
+pub mod SpotLemmas
 pub mod StandLemmas
 pub mod ToldLemmas
 pub mod WhyLemmas

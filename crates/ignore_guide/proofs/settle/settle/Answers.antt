@@ -1,18 +1,23 @@
 use Rattle.std.proofs.Common.{◌≡◌, List, ℕ, length, refl, sym, subst}
 use Rattle.ignore_dir.specs.Lists.{IsAfterSlash}
-use Rattle.ignore_levels.specs.Levels.{IsBelow, IsChain, counted, counting, slots_of}
-use Rattle.ignore_guide.proofs.StandLemmas.{all-more, places-kept}
-use Rattle.ignore_guide.proofs.guide.Guide.settle.Goals as goal
+use Rattle.ignore_levels.specs.Levels.{IsAdded, IsBelow, IsChain, counted, counting, slots_of}
+use Rattle.ignore_guide.proofs.StandLemmas.{all-more}
+use Rattle.ignore_guide.proofs.settle.settle.Goals as goal
 
-pub returns-in_err-place-clause-kept : goal.returns-in_err-place-clause-kept
-returns-in_err-place-clause-kept c =
-    places-kept c.args.self.now (record c.args.self.now { levels = c.add.new.self; places = c.add-2.new.self })
-    c.in_err-place.ensures.kept c.in_ok-level.ensures.kept
-
-pub returns-clause-kept : goal.returns-clause-kept
-returns-clause-kept c =
-    places-kept c.args.self.now (record c.args.self.now { levels = c.add.new.self; places = c.add-2.new.self })
-    c.in_ok-place.ensures.kept c.in_ok-level.ensures.kept
+pub returns-clause-settled : goal.returns-clause-settled
+returns-clause-settled c =
+    let opened = c.args.opened in
+    let size : c.as_str-offset.result.now ≡ opened.text = c.as_str-offset.ensures in
+    record {
+      dir = _;
+      there = c.in_ok-place.ensures.added;
+      inside = refl;
+      kept = c.kept_of.ensures;
+      deep = refl;
+      added = subst (λ (t : List ℕ). IsAdded (slots_of c.add.new.self) opened.dir c.args.around.level (length t) c.in_ok-level.level) size
+          c.in_ok-level.ensures.added;
+      branch = c.in_ok-level.ensures.below;
+    }
 
 pub returns-clause-stands : goal.returns-clause-stands
 returns-clause-stands c = λ at chain below inside ends.
