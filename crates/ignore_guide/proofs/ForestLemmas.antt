@@ -102,7 +102,7 @@ module _ (slots : List Slot) (places : Places) (forest : IsForest slots places) 
       let w = forest.inner o stays q at is in
       let deeper = w.deeper in
       more q w.outer l w.there (omega (arith, lt, deeper))
-      (λ same. none o (stays, (at, is ∙ ap Some same))) owns
+      (λ same. none o (stays, at, is ∙ ap Some same)) owns
       (subst (λ (x : Option LevelPlace). Passes slots x l) w.around passes)
 
   -- no other passes what goes with it
@@ -149,13 +149,22 @@ module _ (old new : List Slot) (before after : Places) (forest : IsForest old be
         let w = forest.inner o e q (was-left o e at) is in
         record {
           outer = w.outer;
-          there = others q (λ same. none o (e, (was-left o e at, is ∙ ap Some same))) ∙ w.there;
+          there = others q (λ same. none o (e, was-left o e at, is ∙ ap Some same)) ∙ w.there;
           around = w.around;
           deeper = w.deeper;
         };
     apart = λ one other d s l ne a b x y.
         forest.apart one other d s l ne (was-left one d a) (was-left other s b) (owns-kept keeps d.around x) (owns-kept keeps s.around y);
   }
+
+-- No directory was entered.
+pub forest-empty : (slots : List Slot) (places : Places) → ((p : Place) → entered_at places p ≡ None) → IsForest slots places
+forest-empty slots places none = record {
+  alive = λ o e at. let n = none o in absurd (cc (at, n));
+  top = λ o e at is. let n = none o in absurd (cc (at, n));
+  inner = λ o e q at is. let n = none o in absurd (cc (at, n));
+  apart = λ one other d s l ne a b x y. let n = none one in cc (a, n);
+}
 
 -- The list of levels grew.
 pub forest-grown : (old new : List Slot) (before after : Places) → IsForest old before → Keeps old new → IsSamePlaces before after
@@ -292,9 +301,9 @@ module _ (old new : List Slot) (dir : Dir) (around level : Option LevelPlace) (o
   owned-fresh most within high l owns = owned-fresh-by most within high l owns (counts dir) refl
 
 -- where what is around was new too
-pub fresh-more : (first old new : List Slot) → Keeps first old → Keeps old new → (around level : Option LevelPlace) (chain : List Placed)
-    → IsChain old around chain → IsBranch old new around level → AreFresh first old around → AreFresh first new level
-fresh-more first old new grew keeps around level chain is branch fresh l passes = elim (branch l passes) [
-      | inl none ↦ not-before first old grew l none (level_at first l) refl
+pub fresh-more : (start old new : List Slot) → Keeps start old → Keeps old new → (around level : Option LevelPlace) (chain : List Placed)
+    → IsChain old around chain → IsBranch old new around level → AreFresh start old around → AreFresh start new level
+fresh-more start old new grew keeps around level chain is branch fresh l passes = elim (branch l passes) [
+      | inl none ↦ not-before start old grew l none (level_at start l) refl
       | inr far ↦ fresh l (passes-back old new keeps around chain l is far)
     ]

@@ -6,6 +6,7 @@ pub mod HostLemmas
 pub mod LawLemmas
 pub mod NameLemmas
 pub mod PlaceLemmas
+pub mod SettleLemmas
 pub mod SpotLemmas
 pub mod StandLemmas
 pub mod ToldLemmas
