@@ -2,7 +2,7 @@
 use Rattle.std.proofs.Common.{◌≡◌, ℕ, ◌+◌, ◌<◌, ◌≤◌, All, List, [], ◌∷◌, ◌++◌, Option, None, Some, length, refl, sym, ap, subst, ◌∙◌, arith}
 use Rattle.std.proofs.lemmas.List.{length-append}
 use Rattle.ignore_base.specs.Paths.{join_of}
-use Rattle.ignore_dir.specs.Lists.{IsAfterSlash, Placed}
+use Rattle.ignore_dir.specs.Lists.{Placed}
 use Rattle.ignore_dir.specs.Steps.{Reached, entry}
 use Rattle.ignore_levels.specs.Levels.{IsChain, Keeps, counting, level_at}
 use Rattle.ignore_levels.specs.declared.list.Place.{Place as LevelPlace}
@@ -57,7 +57,7 @@ forest-below old new before after parent place outer opened name there keeps vac
     let front = length-append outer.text name in
     let own = ap length s.text in
     omega (arith, whole, end, front, own) in
-    let low : All (λ q. q.1 ≤ length at.text) (counting at.chain) = λ k q lt. let a : IsAfterSlash at.text q.1 = s.inside k q lt in a.1 in
+    let low : All (λ q. q.1 ≤ length at.text) (counting at.chain) = λ k q lt. let a = s.inside k q lt in a.1 in
     let within : (q : Place) → settled.dir.parent ≡ Some q → IsWithin before settled.dir q = λ q is.
     let same : parent ≡ q = some-parent parent q (sym settled.inside ∙ is) in
     let deep = settled.deep in
