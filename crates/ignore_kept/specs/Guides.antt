@@ -10,7 +10,7 @@ use Rattle.ignore_base.specs.declared.fault.Fault.TheVariants.{NoCurrentDir}
 use Rattle.ignore_dir.specs.Load.{joined_some}
 use Rattle.ignore_dir.specs.Steps.{Reached}
 use Rattle.ignore_files.specs.declared.env.Env.{Env}
-use Rattle.ignore_guide.specs.Guide.{AreApart, IsSameGuide, KeepsPlaces, StandsFor}
+use Rattle.ignore_guide.specs.Guide.{IsSameGuide, KeepsPlaces, StandsFor}
 use Rattle.ignore_guide.specs.Hosted.{CallRefused, IsToldOf, StepGives}
 use Rattle.ignore_guide.specs.Names.{IsAsked, IsLeft, IsNotLeft, is_name}
 use Rattle.ignore_guide.specs.Places.{IsGone, entered_at}
@@ -271,8 +271,7 @@ abbrev pub Leaves : Place → Begun → Result (Unit {0}) Stopped → Begun → 
 Leaves place old (Ok done) new =
     (guide : Guide) × (new ≡ record old { guide = guide }) × (is_waiting old ≡ false) × IsLeft old.guide.places place
     × IsGone guide.places place
-    × ((other : Place) (depth : ℕ) (at : Reached) → other ≢ place → AreApart old.guide place other → StandsFor old.guide other depth at
-    → StandsFor guide other depth at)
+    × ((other : Place) (depth : ℕ) (at : Reached) → other ≢ place → StandsFor old.guide other depth at → StandsFor guide other depth at)
     × ((other : Place) → IsGone old.guide.places other → IsGone guide.places other) × IsSameGuide old.guide guide
 Leaves place old (Err Misused) new =
     (new ≡ old) × ((is_waiting old ≡ true) ⊎ ((e : GuideError) × IsNotLeft old.guide.places place e))
