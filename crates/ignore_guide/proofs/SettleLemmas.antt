@@ -1,23 +1,27 @@
 -- The levels of the directories that were entered, once one was settled: a root, and one below another.
-use Rattle.std.proofs.Common.{◌≡◌, ℕ, ◌+◌, ◌<◌, ◌≤◌, All, List, [], ◌∷◌, ◌++◌, Option, None, Some, length, refl, sym, ap, subst, ◌∙◌, arith}
+use Rattle.std.proofs.Common.{◌≡◌, ℕ, ◌+◌, ◌<◌, ◌≤◌, All, List, [], ◌∷◌, ◌++◌, Option, None, Some, Result, Ok, Err, IfOk, OnErr, length, reverse}
+use Rattle.std.proofs.Common.{refl, sym, ap, subst, ◌∙◌, arith}
 use Rattle.std.proofs.lemmas.List.{length-append}
+use Rattle.std.proofs.lemmas.List.Elements.{All-filter}
 use Rattle.ignore_base.specs.Paths.{join_of}
-use Rattle.ignore_dir.specs.Lists.{Placed}
+use Rattle.ignore_dir.specs.Lists.{IsAfterSlash, Placed}
 use Rattle.ignore_dir.specs.Steps.{Reached, entry}
-use Rattle.ignore_levels.specs.Levels.{IsChain, Keeps, counting, level_at}
+use Rattle.ignore_levels.specs.Levels.{IsBelow, IsChain, Keeps, counting, counts, level_at}
 use Rattle.ignore_levels.specs.declared.list.Place.{Place as LevelPlace}
 use Rattle.ignore_levels.specs.declared.list.Slot.{Slot}
 use Rattle.ignore_levels.proofs.PassLemmas.{keeps-then}
 use Rattle.ignore_guide.specs.Forest.{IsForest, IsWithin, Owns, Stands, StandsIn}
 use Rattle.ignore_guide.specs.Guide.{holding}
-use Rattle.ignore_guide.specs.Places.{KeepsOthers, entered_at}
+use Rattle.ignore_guide.specs.Places.{IsSamePlaces, KeepsOthers, entered_at}
 use Rattle.ignore_guide.specs.Settle.{AreFresh, IsSettled}
+use Rattle.ignore_guide.specs.declared.guide.Arrived.{Arrived}
 use Rattle.ignore_guide.specs.declared.open.Opened.{Opened}
 use Rattle.ignore_guide.specs.declared.places.Entered.{Entered}
 use Rattle.ignore_guide.specs.declared.places.Place.{Place}
 use Rattle.ignore_guide.specs.declared.places.Places.{Places}
 use Rattle.ignore_guide.proofs.EnterLemmas.{Settles, stands-below}
-use Rattle.ignore_guide.proofs.ForestLemmas.{forest-added, fresh-more, owned-fresh, owns-passes, some-entered}
+use Rattle.ignore_guide.proofs.ForestLemmas.{forest-added, forest-grown, fresh-more, owned-fresh, owns-passes, some-entered}
+use Rattle.ignore_guide.proofs.StandLemmas.{All-reverse}
 
 some-parent : (a b : Place) → Some a ≡ Some b → a ≡ b
 some-parent a b e = cc
@@ -69,3 +73,42 @@ forest-below old new before after parent place outer opened name there keeps vac
     (λ l owns. owned-fresh old new opened.dir outer.level settled.dir.level (length opened.text) keeps settled.added settled.branch
     (counting at.chain) s.chain (length at.text) low high l
     (subst (λ (x : Option LevelPlace). Owns new x settled.dir.level l) settled.kept owns))
+
+-- what a directory that is settled stands for if it was, below any chain of what is around it
+abbrev pub SettlesIfOk : {E : Type 0} → Result Arrived E → List Slot → Option LevelPlace → List Slot → Places → Opened → Type 0
+SettlesIfOk r slots around new places opened =
+    (at : Reached) → IsChain slots around (counting at.chain) → IsBelow (length opened.text) (counting at.chain)
+    → All (λ p. IsAfterSlash opened.text p.1) (counting at.chain) → IsAfterSlash opened.text (length opened.text)
+    → IfOk r (λ a. StandsIn new places a.place opened.depth
+    (record { chain = (opened.dir, length opened.text) ∷ at.chain; text = opened.text; path = opened.path }))
+
+-- Whether the directory was settled or there was no memory for it.
+pub forest-below-any : {E : Type 0} (r : Result Arrived E) (old new : List Slot) (before after : Places) (parent : Place) (outer : Entered) (opened : Opened)
+    (name : List ℕ) → entered_at before parent ≡ Some outer → Keeps old new → OnErr r (IsSamePlaces before after)
+    → IfOk r (λ a. entered_at before a.place ≡ None) → IfOk r (λ a. KeepsOthers a.place before after)
+    → IfOk r (λ a. IsSettled old new after a.place (record { level = outer.level; parent = Some parent }) opened)
+    → SettlesIfOk r old outer.level new after opened
+    → opened.text ≡ (outer.text ++ name) ++ 47 ∷ [] → opened.path ≡ join_of outer.path name → opened.depth ≡ outer.depth + 1
+    → IsForest old before → IsForest new after
+forest-below-any (Ok a) old new before after parent outer opened name there keeps same vacant others settled settles t p d forest =
+    forest-below old new before after parent a.place outer opened name there keeps vacant others settled settles t p d forest
+forest-below-any (Err e) old new before after parent outer opened name there keeps same vacant others settled settles t p d forest =
+    forest-grown old new before after forest keeps same
+
+pub forest-root-any : {E : Type 0} (r : Result Arrived E) (start mid new : List Slot) (before after : Places) (level : Option LevelPlace)
+    (chain : List Placed) (opened : Opened) (at : Reached) → Keeps start mid → Keeps mid new → AreFresh start mid level → IsChain mid level chain
+    → OnErr r (IsSamePlaces before after) → IfOk r (λ a. entered_at before a.place ≡ None) → IfOk r (λ a. KeepsOthers a.place before after)
+    → IfOk r (λ a. IsSettled mid new after a.place (record { level = level; parent = None }) opened)
+    → IfOk r (λ a. StandsIn new after a.place opened.depth at)
+    → IsForest start before → IsForest new after
+forest-root-any (Ok a) start mid new before after level chain opened at grew keeps fresh is same vacant others settled stands forest =
+    forest-root start mid new before after level chain a.place opened opened.depth at grew keeps fresh is vacant others settled stands forest
+forest-root-any (Err e) start mid new before after level chain opened at grew keeps fresh is same vacant others settled stands forest =
+    forest-grown start new before after forest (keeps-then start mid new grew keeps) same
+
+-- what the directories above a root leave is after a slash
+pub above-placed : (text : List ℕ) (above : List Placed) → All (λ p. IsAfterSlash text p.1) above
+    → All (λ p. IsAfterSlash text p.1) (counting (reverse above))
+above-placed text above placed =
+    All-filter (λ (q : Placed). counts q.0) (λ (q : Placed). IsAfterSlash text q.1) (reverse above)
+    (All-reverse (λ (q : Placed). IsAfterSlash text q.1) above placed)

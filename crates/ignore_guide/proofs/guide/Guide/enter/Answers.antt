@@ -11,9 +11,27 @@ use Rattle.ignore_guide.specs.Forest.{StandsIn}
 use Rattle.ignore_guide.specs.Guide.{holding}
 use Rattle.ignore_guide.specs.Places.{entered_at}
 use Rattle.ignore_guide.proofs.EnterLemmas.{path-there, stands-below}
-use Rattle.ignore_guide.proofs.SettleLemmas.{forest-below}
+use Rattle.ignore_guide.proofs.SettleLemmas.{forest-below-any}
 use Rattle.ignore_guide.proofs.StandLemmas.{chains-kept, others-stay, places-kept}
 use Rattle.ignore_guide.proofs.guide.Guide.enter.Goals as goal
+
+pub invariant_of-self-2 : goal.invariant_of-self-2
+invariant_of-self-2 g c =
+    let old = c.args.self.now in
+    let o = c.in_ok-opened.opened in
+    let around = c.in-Some.dir.now in
+    let there : entered_at old.places c.args.parent ≡ Some around = sym c.get.ensures ∙ ap option_copied c.in-Some.is in
+    record {
+      forest = ∥∥₁_map old.forest (λ f. forest-below-any c.settle.result (slots_of old.levels) (slots_of c.settle.new.levels) old.places c.settle.new.places
+          c.args.parent around o c.args.name.now there c.settle.ensures.levels c.settle.ensures.unchanged c.settle.ensures.new c.settle.ensures.others
+          c.settle.ensures.settled c.settle.ensures.stands c.in_ok-opened.ensures.text c.in_ok-opened.ensures.path c.in_ok-opened.ensures.depth f);
+    }
+
+pub returns-in_err-arrived-clause-kept : goal.returns-in_err-arrived-clause-kept
+returns-in_err-arrived-clause-kept g c =
+    let old = c.args.self.now in
+    places-kept (slots_of old.levels) (slots_of c.settle.new.levels) old.places c.settle.new.places (λ place e h. c.in_err-arrived.ensures.unchanged place ∙ h)
+    (chains-kept (slots_of old.levels) (slots_of c.settle.new.levels) c.in_err-arrived.ensures.levels)
 
 pub returns-clause-kept : goal.returns-clause-kept
 returns-clause-kept g c =

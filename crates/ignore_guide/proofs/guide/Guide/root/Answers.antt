@@ -1,17 +1,44 @@
-use Rattle.std.proofs.Common.{ap, option_map, sym, subst, ◌∙◌}
+use Rattle.std.proofs.Common.{ap, option_map, refl, reverse, sym, subst, ◌∙◌}
 use Rattle.std.proofs.Math.Logic.{∥∥₁_map}
 use Rattle.ignore_base.specs.Problem.{problem_of}
 use Rattle.ignore_dir.specs.Scene.{scene}
 use Rattle.ignore_dir.specs.Steps.{Reached}
-use Rattle.ignore_levels.specs.Levels.{slots_of}
+use Rattle.ignore_levels.specs.Levels.{counting, slots_of}
 use Rattle.ignore_levels.proofs.PassLemmas.{keeps-then}
 use Rattle.ignore_guide.specs.Forest.{StandsIn}
 use Rattle.ignore_guide.specs.Guide.{IsRootBy}
 use Rattle.ignore_guide.proofs.EnterLemmas.{root-whole, stands-root}
 use Rattle.ignore_guide.proofs.ForestLemmas.{forest-grown}
-use Rattle.ignore_guide.proofs.SettleLemmas.{forest-root}
+use Rattle.ignore_guide.proofs.SettleLemmas.{above-placed, forest-root-any}
 use Rattle.ignore_guide.proofs.StandLemmas.{above-below, above-rising, chains-kept, others-stay, places-kept}
 use Rattle.ignore_guide.proofs.guide.Guide.root.Goals as goal
+
+pub invariant_of-self : goal.invariant_of-self
+invariant_of-self g c =
+    let old = c.args.self.now in
+    record {
+      forest = ∥∥₁_map old.forest (λ f. forest-grown (slots_of old.levels) (slots_of c.above.new.levels) old.places old.places f
+          c.above.ensures.levels (λ place. refl));
+    }
+
+pub invariant_of-self-2 : goal.invariant_of-self-2
+invariant_of-self-2 g c =
+    let old = c.args.self.now in
+    let rooted = c.in_ok-rooted.rooted in
+    let o = rooted.opened in
+    let st = old.settings in
+    let dirs = rooted.above.items in
+    let by = c.in_ok-rooted.ensures.answered in
+    let rising = above-rising g.F.Files c.args.files.now st c.args.root.now dirs o.text by.far by.is_above in
+    let below = above-below g.F.Files c.args.files.now st c.args.root.now dirs o.text by.far by.is_above in
+    let chain = c.in_ok-level.ensures.chain rising in
+    record {
+      forest = ∥∥₁_map old.forest (λ f. forest-root-any c.settle.result (slots_of old.levels) (slots_of c.above.new.levels) (slots_of c.settle.new.levels)
+          old.places c.settle.new.places c.in_ok-level.level (counting (reverse dirs)) o _ c.in_ok-level.ensures.levels c.settle.ensures.levels
+          (c.in_ok-level.ensures.fresh rising) chain c.settle.ensures.unchanged c.settle.ensures.new c.settle.ensures.others c.settle.ensures.settled
+          (c.settle.ensures.stands (record { chain = reverse dirs; text = o.text; path = o.path }) chain below
+          (above-placed o.text dirs c.in_ok-rooted.ensures.placed) c.in_ok-rooted.ensures.ends) f);
+    }
 
 pub returns-in_err-level-clause-kept : goal.returns-in_err-level-clause-kept
 returns-in_err-level-clause-kept g c =
