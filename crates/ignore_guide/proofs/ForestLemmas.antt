@@ -38,24 +38,24 @@ level-tells None None = inl refl
 level-tells None (Some b) = inr (λ e. absurd (cc (e)))
 level-tells (Some a) None = inr (λ e. absurd (cc (e)))
 level-tells (Some a) (Some b) = elim (eqb_tells a.index b.index) [
-      | inl e ↦ inl (ap Some (level-is a b e.1))
-      | inr e ↦ inr (λ same. e.1 (ap (λ (x : LevelPlace). x.index) (some-level a b same)))
-    ]
+  | inl e ↦ inl (ap Some (level-is a b e.1))
+  | inr e ↦ inr (λ same. e.1 (ap (λ (x : LevelPlace). x.index) (some-level a b same)))
+]
 
 -- What a directory's level passes goes with it, or the level around it passes it.
 pub split : (slots : List Slot) (floor : Option LevelPlace) {from : Option LevelPlace} {l : LevelPlace} → Passes slots from l
     → Owns slots floor from l ⊎ Passes slots floor l
 split slots floor (itself {place}) = elim (level-tells (Some place) floor) [
-      | inl e ↦ inr (subst (λ (o : Option LevelPlace). Passes slots o place) e itself)
-      | inr ne ↦ inl (first ne)
-    ]
+  | inl e ↦ inr (subst (λ (o : Option LevelPlace). Passes slots o place) e itself)
+  | inr ne ↦ inl (first ne)
+]
 split slots floor (above {place} {passed} {level} e rest) = elim (level-tells (Some place) floor) [
-      | inl s ↦ inr (subst (λ (o : Option LevelPlace). Passes slots o passed) s (above e rest))
-      | inr ne ↦ elim (split slots floor rest) [
-          | inl o ↦ inl (next ne e o)
-          | inr p ↦ inr p
-        ]
-    ]
+  | inl s ↦ inr (subst (λ (o : Option LevelPlace). Passes slots o passed) s (above e rest))
+  | inr ne ↦ elim (split slots floor rest) [
+    | inl o ↦ inl (next ne e o)
+    | inr p ↦ inr p
+  ]
+]
 
 pub owns-passes : {slots : List Slot} {floor from : Option LevelPlace} {l : LevelPlace} → Owns slots floor from l → Passes slots from l
 owns-passes (first ne) = itself
@@ -110,9 +110,9 @@ module _ (slots : List Slot) (places : Places) (forest : IsForest slots places) 
       → Owns slots dir.around dir.level l → Passes slots stays.level l → ⊥
   apart-by zero o stays l at lt ne owns passes = absurd (omega (arith, lt))
   apart-by (suc n) o stays l at lt ne owns passes = elim (split slots stays.around passes) [
-        | inl mine ↦ forest.apart o p stays dir l ne at there mine owns
-        | inr far ↦ apart-step n (apart-by n) o stays l at lt ne owns far stays.parent refl
-      ]
+    | inl mine ↦ forest.apart o p stays dir l ne at there mine owns
+    | inr far ↦ apart-step n (apart-by n) o stays l at lt ne owns far stays.parent refl
+  ]
 
   pub apart-all : (o : Place) (stays : Entered) (l : LevelPlace) → entered_at places o ≡ Some stays → o ≢ p
       → Owns slots dir.around dir.level l → Passes slots stays.level l → ⊥
@@ -198,9 +198,9 @@ module _ (old new : List Slot) (before after : Places) (forest : IsForest old be
 
   is-at : (o : Place) (e : Entered) → entered_at after o ≡ Some e → IsAt o e
   is-at o e at = elim (place-tells o p) [
-        | inl same ↦ entered_now same (some-entered e dir (sym at ∙ (ap (entered_at after) same ∙ there)))
-        | inr ne ↦ entered_then (sym (others o ne) ∙ at)
-      ]
+    | inl same ↦ entered_now same (some-entered e dir (sym at ∙ (ap (entered_at after) same ∙ there)))
+    | inr ne ↦ entered_then (sym (others o ne) ∙ at)
+  ]
 
   stays : (q : Place) (e : Entered) → entered_at before q ≡ Some e → entered_at after q ≡ Some e
   stays q e at = others q (λ same. let none : entered_at before q ≡ None = ap (entered_at before) same ∙ vacant in absurd (cc (at, none))) ∙ at
@@ -304,6 +304,6 @@ module _ (old new : List Slot) (dir : Dir) (around level : Option LevelPlace) (o
 pub fresh-more : (start old new : List Slot) → Keeps start old → Keeps old new → (around level : Option LevelPlace) (chain : List Placed)
     → IsChain old around chain → IsBranch old new around level → AreFresh start old around → AreFresh start new level
 fresh-more start old new grew keeps around level chain is branch fresh l passes = elim (branch l passes) [
-      | inl none ↦ not-before start old grew l none (level_at start l) refl
-      | inr far ↦ fresh l (passes-back old new keeps around chain l is far)
-    ]
+  | inl none ↦ not-before start old grew l none (level_at start l) refl
+  | inr far ↦ fresh l (passes-back old new keeps around chain l is far)
+]

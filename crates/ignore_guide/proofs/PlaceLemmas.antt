@@ -18,12 +18,12 @@ use Rattle.ignore_guide.proofs.SpotLemmas.{Around, is_in-true, is_place-same, no
 -- two places are the same or not
 pub place-tells : (a b : Place) → (a ≡ b) ⊎ (a ≢ b)
 place-tells a b = elim (eqb_tells a.index b.index) [
-      | inr e ↦ inr (λ same. e.1 (ap (λ (x : Place). x.index) same))
-      | inl e ↦ elim (eqb_tells a.serial b.serial) [
-          | inr f ↦ inr (λ same. f.1 (ap (λ (x : Place). x.serial) same))
-          | inl f ↦ inl (place-is a b e.1 f.1)
-        ]
-    ]
+  | inr e ↦ inr (λ same. e.1 (ap (λ (x : Place). x.index) same))
+  | inl e ↦ elim (eqb_tells a.serial b.serial) [
+    | inr f ↦ inr (λ same. f.1 (ap (λ (x : Place). x.serial) same))
+    | inl f ↦ inl (place-is a b e.1 f.1)
+  ]
+]
 
 pub some-is : (o : Option Entered) → IsSome o → (d : Entered) × (o ≡ Some d)
 some-is None h = absurd (cc (h))
@@ -90,9 +90,9 @@ module _ (places : Places) (counted : ∥ IsCounted places.spots.items places.se
     where
       below : (a b : ℕ) → ((b < a) → ⊥) → a ≤ b
       below a b f = elim (leb_tells a b) [
-            | inl e ↦ e.1
-            | inr e ↦ absurd (f e.1)
-          ]
+        | inl e ↦ e.1
+        | inr e ↦ absurd (f e.1)
+      ]
 
       within : (i : ℕ) (s : Spot) → slice_get places.spots.items i ≡ Some s → s.serial ≤ places.serial
       within i s e = below s.serial places.serial (λ lt. ∥∥₁_elim counted ⊥_prop (λ is. let le = is.handed i s e in omega (arith, le, lt)))
@@ -129,23 +129,23 @@ other-serial false o e = refl
 
 dir_by-other : (k : ℕ) (s : Spot) → (s.serial ≡ k → ⊥) → dir_by k (Some s) ≡ None
 dir_by-other k s ne = elim (eqb_tells s.serial k) [
-      | inl e ↦ absurd (ne e.1)
-      | inr e ↦ other-serial (s.serial == k) (dir_in s.held) e.0
-    ]
+  | inl e ↦ absurd (ne e.1)
+  | inr e ↦ other-serial (s.serial == k) (dir_in s.held) e.0
+]
 
 -- where a serial more is handed out
 serial-more : (k serial : ℕ) (d : Option Entered) → (k ≡ serial + 1 → d ≡ None)
     → cond (nat_le k (serial + 1)) d None ≡ cond (nat_le k serial) d None
 serial-more k serial d none = elim (eqb_tells k (serial + 1)) [
-      | inl e ↦ cond-none (nat_le k (serial + 1)) d (none e.1) ∙ sym (cond-none (nat_le k serial) d (none e.1))
-      | inr e ↦ ap (λ (b : Bool). cond b d None) (elim (leb_tells k serial) [
-          | inl f ↦ le-leb k (serial + 1) (let h = f.1 in omega (arith, h)) ∙ sym f.0
-          | inr f ↦ (elim (leb_tells k (serial + 1)) [
-              | inl g ↦ let a = g.1 in let b = f.1 in absurd (e.1 (omega (arith, a, b)))
-              | inr g ↦ g.0
-            ]) ∙ sym f.0
-        ])
-    ]
+  | inl e ↦ cond-none (nat_le k (serial + 1)) d (none e.1) ∙ sym (cond-none (nat_le k serial) d (none e.1))
+  | inr e ↦ ap (λ (b : Bool). cond b d None) (elim (leb_tells k serial) [
+    | inl f ↦ le-leb k (serial + 1) (let h = f.1 in omega (arith, h)) ∙ sym f.0
+    | inr f ↦ (elim (leb_tells k (serial + 1)) [
+      | inl g ↦ let a = g.1 in let b = f.1 in absurd (e.1 (omega (arith, a, b)))
+      | inr g ↦ g.0
+    ]) ∙ sym f.0
+  ])
+]
 
 no-later : (spots : List Spot) (serial : ℕ) (counted : ∥ IsCounted spots serial ∥₁) (i : ℕ) (o : Option Spot) → slice_get spots i ≡ o
     → dir_by (serial + 1) o ≡ None
@@ -164,15 +164,15 @@ others-added old new put index next n parent spot vacant puts own counts later o
     let by : dir_by k (slice_get new i) ≡ dir_by k (slice_get put i) =
     ap (dir_by k) (counts i) ∙ dir_by-counted k parent n i (slice_get put i) in
     let same : dir_by k (slice_get put i) ≡ dir_by k (slice_get old.spots.items i) = elim (eqb_tells i index) [
-          | inr e ↦ ap (dir_by k) (puts.others i e.1)
-          | inl e ↦
-              let there : slice_get put i ≡ Some spot = ap (slice_get put) e.1 ∙ puts.here in
-              let index_is : other.index ≡ index = e.1 in
-              let differs : spot.serial ≡ k → ⊥ =
-              λ f. ne (place-is other (record { index = index; serial = next }) index_is (sym f ∙ own ∙ sym later)) in
-              ap (dir_by k) there ∙ (dir_by-other k spot differs
-              ∙ sym (ap (λ (x : ℕ). dir_by k (slice_get old.spots.items x)) e.1 ∙ dir_by-none k (slice_get old.spots.items index) vacant))
-        ] in
+      | inr e ↦ ap (dir_by k) (puts.others i e.1)
+      | inl e ↦
+          let there : slice_get put i ≡ Some spot = ap (slice_get put) e.1 ∙ puts.here in
+          let index_is : other.index ≡ index = e.1 in
+          let differs : spot.serial ≡ k → ⊥ =
+          λ f. ne (place-is other (record { index = index; serial = next }) index_is (sym f ∙ own ∙ sym later)) in
+          ap (dir_by k) there ∙ (dir_by-other k spot differs
+          ∙ sym (ap (λ (x : ℕ). dir_by k (slice_get old.spots.items x)) e.1 ∙ dir_by-none k (slice_get old.spots.items index) vacant))
+    ] in
     ap (λ (d : Option Entered). cond (nat_le k next) d None) (by ∙ same)
     ∙ (ap (λ (s : ℕ). cond (nat_le k s) (dir_by k (slice_get old.spots.items i)) None) later
     ∙ serial-more k old.serial (dir_by k (slice_get old.spots.items i))

@@ -182,9 +182,9 @@ recount-held parent n i (Some was) = held-by was n (is_place (record { index = i
 pub put-view : (old : List Spot) (index : ℕ) (spot : Spot) (new : List Spot) → IsPut old index spot new → (i : ℕ) (s : Spot)
     → slice_get new i ≡ Some s → ((i ≡ index) × (s ≡ spot)) ⊎ ((i ≢ index) × (slice_get old i ≡ Some s))
 put-view old index spot new put i s at = elim (eqb_tells i index) [
-      | inl e ↦ inl (e.1, some-spot s spot (sym at ∙ (ap (slice_get new) e.1 ∙ put.here)))
-      | inr e ↦ inr (e.1, sym (put.others i e.1) ∙ at)
-    ]
+  | inl e ↦ inl (e.1, some-spot s spot (sym at ∙ (ap (slice_get new) e.1 ∙ put.here)))
+  | inr e ↦ inr (e.1, sym (put.others i e.1) ∙ at)
+]
 
 bool-cases : (P : Type 0) (b : Bool) → (b ≡ true → P) → (b ≡ false → P) → P
 bool-cases P true f g = f refl
@@ -207,7 +207,6 @@ module _ (spots put counted : List Spot) (serial index n : ℕ) (dir : Entered) 
     (puts : IsPut spots index (record { serial = serial + 1; children = 0; held = Holds dir }) put)
     (inside : (p : Place) → dir.parent ≡ Some p → Around spots p n)
     (counts : (i : ℕ) → slice_get counted i ≡ counted_at dir.parent n i (slice_get put i)) where
-
   count-more : (q : Place) → children_in counted q ≡ children_in spots q + cond (is_place q dir.parent) 1 0
   count-more q =
       let same = same-count q put counted (λ i. ap held_at (counts i) ∙ recount-held dir.parent n i (slice_get put i)) in
@@ -293,7 +292,6 @@ module _ (spots put counted : List Spot) (serial n : ℕ) (place : Place) (dir :
     (puts : IsPut spots place.index (record { serial = place.serial; children = own.children; held = Free free }) put)
     (inside : (p : Place) (s : Spot) → dir.parent ≡ Some p → slice_get spots p.index ≡ Some s → n ≡ s.children - 1)
     (counts : (i : ℕ) → slice_get counted i ≡ counted_at dir.parent n i (slice_get put i)) where
-
   count-less : (q : Place) → children_in counted q + cond (is_place q dir.parent) 1 0 ≡ children_in spots q
   count-less q =
       let same = same-count q put counted (λ i. ap held_at (counts i) ∙ recount-held dir.parent n i (slice_get put i)) in
@@ -311,14 +309,14 @@ module _ (spots put counted : List Spot) (serial n : ℕ) (place : Place) (dir :
 
   stood : (i : ℕ) (s : Spot) → slice_get put i ≡ Some s → Stood i s
   stood i s e = elim (put-view spots place.index _ put puts i s e) [
-        | inl h ↦ record {
-          spot = own;
-          there = ap (slice_get spots) h.0 ∙ at;
-          serials = ap (λ (x : Spot). x.serial) h.1 ∙ sym mine;
-          number = ap (λ (x : Spot). x.children) h.1;
-        }
-        | inr h ↦ record { spot = s; there = h.1; serials = refl; number = refl }
-      ]
+    | inl h ↦ record {
+      spot = own;
+      there = ap (slice_get spots) h.0 ∙ at;
+      serials = ap (λ (x : Spot). x.serial) h.1 ∙ sym mine;
+      number = ap (λ (x : Spot). x.children) h.1;
+    }
+    | inr h ↦ record { spot = s; there = h.1; serials = refl; number = refl }
+  ]
 
   count-left : (i : ℕ) (s : Spot) (r : Recounts dir.parent n i (slice_get put i) s)
       → s.children ≡ children_in counted (record { index = i; serial = r.was.serial })

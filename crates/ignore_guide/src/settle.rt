@@ -34,7 +34,10 @@ fn kept_of(around: Around) -> Option<ignore_levels::Place>
 
 /// Adds the directories above a root, each below the one before it, and returns what stands for the
 /// last.
-pub(crate) fn above(levels: &mut Levels, dirs: Vec<Placed>) -> Result<Option<ignore_levels::Place>, AllocError>
+pub(crate) fn above(
+    levels: &mut Levels,
+    dirs: Vec<Placed>,
+) -> Result<Option<ignore_levels::Place>, AllocError>
     ensures chain { IsRising 0 dirs.items → IfOk result (λ place. IsChain (slots_of levels.new) place (counting (reverse dirs.items))) }
     ensures fresh { IsRising 0 dirs.items → IfOk result (λ place. AreFresh (slots_of levels.old) (slots_of levels.new) place) }
     ensures levels { Keeps (slots_of levels.old) (slots_of levels.new) }
