@@ -1,5 +1,5 @@
 -- The levels of the directories that were entered, once one more was, and once one was left.
-use Rattle.std.proofs.Common.{◌≡◌, ◌≢◌, ℕ, zero, suc, ◌+◌, ◌<◌, ◌≤◌, Bool, true, false, All, List, [], ◌∷◌, Option, None, Some, ◌⊎◌, inl, inr}
+use Rattle.std.proofs.Common.{◌≡◌, ◌≢◌, ℕ, zero, suc, ◌<◌, ◌≤◌, Bool, true, false, All, List, Option, None, Some, ◌⊎◌, inl, inr}
 use Rattle.std.proofs.Common.{refl, sym, ap, subst, ◌∙◌, arith}
 use Rattle.std.proofs.lemmas.Bool.Decides.{eqb_tells}
 use Rattle.ignore_dir.specs.Lists.{Placed}
@@ -12,7 +12,7 @@ use Rattle.ignore_levels.specs.declared.list.Level.{Level}
 use Rattle.ignore_levels.specs.declared.list.Place.{Place as LevelPlace}
 use Rattle.ignore_levels.specs.declared.list.Slot.{Slot}
 use Rattle.ignore_levels.proofs.ChainLemmas.{chain-kept}
-use Rattle.ignore_levels.proofs.PassLemmas.{floor-kept, passed-level, passes-back}
+use Rattle.ignore_levels.proofs.PassLemmas.{passed-level, passes-back}
 use Rattle.ignore_guide.specs.Forest.{IsForest, IsWithin, Owns, Stands}
 use Rattle.ignore_guide.specs.Forest.Owns.{first, next}
 use Rattle.ignore_guide.specs.Places.{IsIn, IsSamePlaces, KeepsOthers, entered_at}

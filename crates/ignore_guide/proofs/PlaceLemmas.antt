@@ -1,19 +1,18 @@
 -- What stands at a place of the list, and who is in it.
-use Rattle.std.proofs.Common.{◌≡◌, ◌≢◌, ℕ, ◌+◌, ◌-◌, ◌<◌, ◌≤◌, ◌==◌, nat_le, Bool, true, false, cond, List, Option, None, Some, is_some, IsSome, ◌⊎◌, inl, inr}
-use Rattle.std.proofs.Common.{refl, sym, ap, subst, ◌∙◌, arith, slice_get, eqb-true, eq-eqb}
+use Rattle.std.proofs.Common.{◌≡◌, ◌≢◌, ℕ, ◌+◌, ◌<◌, ◌≤◌, ◌==◌, nat_le, Bool, true, false, cond, List, Option, None, Some, IsSome, ◌⊎◌, inl, inr}
+use Rattle.std.proofs.Common.{refl, sym, ap, ◌∙◌, arith, slice_get, eqb-true, eq-eqb}
 use Rattle.std.proofs.lemmas.Bool.{le-leb, leb-true}
 use Rattle.std.proofs.lemmas.Bool.Decides.{eqb_tells, leb_tells}
-use Rattle.std.proofs.Math.Logic.{∥∥₁_elim, ∥∥₁_map}
+use Rattle.std.proofs.Math.Logic.{∥∥₁_elim}
 use mathlib.Core.HLevel.{⊥_prop}
 use native.Mathlib.Nat.{ℕ_set}
 use Rattle.ignore_guide.specs.Places.{IsIn, entered_at}
 use Rattle.ignore_guide.specs.Spots.{IsCounted, IsPut, children_in, counted_at, dir_by, dir_in, dir_of, is_in, is_place}
 use Rattle.ignore_guide.specs.declared.places.Entered.{Entered}
-use Rattle.ignore_guide.specs.declared.places.Held.TheVariants.{Entered as Holds, Free}
 use Rattle.ignore_guide.specs.declared.places.Place.{Place}
 use Rattle.ignore_guide.specs.declared.places.Places.{Places}
 use Rattle.ignore_guide.specs.declared.places.Spot.{Spot}
-use Rattle.ignore_guide.proofs.SpotLemmas.{Around, is_in-true, is_place-same, none-in, place-is, some-in, some-spot}
+use Rattle.ignore_guide.proofs.SpotLemmas.{is_in-true, is_place-same, none-in, place-is, some-in, some-spot}
 
 -- two places are the same or not
 pub place-tells : (a b : Place) → (a ≡ b) ⊎ (a ≢ b)

@@ -6,7 +6,7 @@ use Rattle.std.proofs.lemmas.List.Elements.{All-filter}
 use Rattle.ignore_base.specs.Paths.{join_of}
 use Rattle.ignore_dir.specs.Lists.{IsAfterSlash, Placed}
 use Rattle.ignore_dir.specs.Steps.{Reached, entry}
-use Rattle.ignore_levels.specs.Levels.{IsBelow, IsChain, Keeps, counting, counts, level_at}
+use Rattle.ignore_levels.specs.Levels.{IsBelow, IsChain, Keeps, counting, counts}
 use Rattle.ignore_levels.specs.declared.list.Place.{Place as LevelPlace}
 use Rattle.ignore_levels.specs.declared.list.Slot.{Slot}
 use Rattle.ignore_levels.proofs.PassLemmas.{keeps-then}

@@ -14,7 +14,7 @@ use Rattle.ignore_dir.specs.declared.settings.Settings.{Settings}
 use Rattle.ignore_dir.proofs.AboveByLemmas.{are-length}
 use Rattle.ignore_dir.proofs.AboveLemmas.{length-directories}
 use Rattle.ignore_files.specs.declared.files.Files.{Ghosts as Files}
-use Rattle.ignore_levels.specs.Levels.{IsBelow, IsChain, IsRising, Keeps, counting, counts, slots_of}
+use Rattle.ignore_levels.specs.Levels.{IsBelow, IsChain, IsRising, Keeps, counting, counts}
 use Rattle.ignore_levels.specs.declared.list.Place.{Place as LevelPlace}
 use Rattle.ignore_levels.specs.declared.list.Slot.{Slot}
 use Rattle.ignore_levels.proofs.ChainLemmas.{chain-kept}

@@ -1,5 +1,5 @@
 -- The directories that were entered and not left, each at its place.
-use Rattle.std.specs.Prelude.{◌≡◌, ◌≢◌, ℕ, ◌≤◌, nat_le, Option, None, Some, slice_get, if◌then◌else◌}
+use Rattle.std.specs.Prelude.{◌≡◌, ◌≢◌, ◌≤◌, nat_le, Option, None, Some, slice_get, if◌then◌else◌}
 use Rattle.ignore_guide.specs.Spots.{dir_by}
 use Rattle.ignore_guide.specs.declared.places.Entered.{Entered}
 use Rattle.ignore_guide.specs.declared.places.Place.{Place}
