@@ -19,6 +19,7 @@ use Rattle.ignore_files.specs.declared.types.Metadata.{Metadata}
 use Rattle.ignore_guide.specs.Asking.{is_told}
 use Rattle.ignore_guide.specs.Guide.{IsRootBy, StandsFor, holding, root_reached}
 use Rattle.ignore_guide.specs.Names.{IsRefused}
+use Rattle.ignore_guide.specs.Places.{IsIn, IsSamePlaces, KeepsOthers, entered_at}
 use Rattle.ignore_guide.specs.declared.error.GuideError.{GuideError}
 use Rattle.ignore_guide.specs.declared.error.GuideError.TheVariants.{Memory}
 use Rattle.ignore_guide.specs.declared.guide.Arrived.{Arrived}
@@ -31,6 +32,7 @@ use Rattle.ignore_guide.specs.declared.hosted.Step.TheVariants as step
 use Rattle.ignore_guide.specs.declared.missing.Question.{Question}
 use Rattle.ignore_guide.specs.declared.missing.Wanted.{Wanted}
 use Rattle.ignore_guide.specs.declared.missing.Wanted.TheVariants as wanted
+use Rattle.ignore_guide.specs.declared.places.Place.{Place}
 use Rattle.ignore_guide.specs.declared.places.Places.{Places}
 use Rattle.ignore_guide.specs.declared.told.Told.{Told}
 
@@ -54,6 +56,22 @@ CallRefused places (call.Enter parent name) e = IsRefused places parent name e
 abbrev pub StepGives : Files Told → Call → Told → Guide → Step → Guide → Type 0
 StepGives files call told old (step.Wants w) new = (new ≡ old) × (w.call ≡ call) × (w.told ≡ told) × (is_told told w.question ≡ false)
 StepGives files call told old (step.Arrived r) new = Comes files told call old r new
+
+-- the directory of a call is in the one at the place that the call names, and a root is in none
+abbrev pub IsPlaced : Call → Places → Place → Type 0
+IsPlaced (call.Root root) places place = (parent : Place) → IsIn places parent place → ⊥
+IsPlaced (call.Enter parent name) places place = IsIn places parent place
+
+-- no directory was at the place of a call's, which is where the call says; what is at each other one stays
+pub record IsNewPlace (asked : Call) (old : Places) (place : Place) (new : Places) : Type 0 where
+  pub vacant : entered_at old place ≡ None
+  pub within : IsPlaced asked new place
+  pub stay : KeepsOthers place old new
+
+-- where a call waits each place is as it was, and else its directory has a new one
+abbrev pub StepPlaces : Call → Places → Step → Places → Type 0
+StepPlaces asked old (step.Wants w) new = IsSamePlaces old new
+StepPlaces asked old (step.Arrived r) new = IsNewPlace asked old r.place new
 
 -- what a host says that a path leads to, if anywhere; it says no size
 abbrev pub kind_answer : Option FileType → Result Metadata Fault

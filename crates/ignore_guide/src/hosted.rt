@@ -1,10 +1,10 @@
 //! A guide whose host is asked for what it needs, one path at a time.
-ghost use Rattle.std.specs.Prelude.{◌≡◌, IfErr, IfOk, List, OnOk, Some, string_bytes, ℕ};
+ghost use Rattle.std.specs.Prelude.{◌≡◌, IfErr, IfOk, List, OnErr, OnOk, Some, string_bytes, ℕ};
 ghost use Rattle.std.specs.BTreeMap.{get_by_text};
 ghost use Rattle.ignore_guide.specs.Guide.{IsSameGuide, IsUnchanged, KeepsPlaces};
-ghost use Rattle.ignore_guide.specs.Hosted.{CallRefused, Comes, IsToldOf, StepGives, kind_answer, path_answer, read_answer, told_more};
+ghost use Rattle.ignore_guide.specs.Hosted.{CallRefused, Comes, IsNewPlace, IsToldOf, StepGives, StepPlaces, kind_answer, path_answer, read_answer, told_more};
 ghost use Rattle.ignore_guide.specs.Names.{IsAsked, IsRefused};
-ghost use Rattle.ignore_guide.specs.Places.{IsGone};
+ghost use Rattle.ignore_guide.specs.Places.{IsGone, IsSamePlaces};
 ghost use Rattle.ignore_guide.specs.Told.{IsAlmostFresh, IsFresh};
 ghost use Rattle.ignore_guide.specs.declared.error.GuideError.TheVariants.{Memory};
 ghost use Rattle.ignore_guide.specs.declared.hosted.Call.TheVariants as calls;
@@ -99,6 +99,8 @@ impl Guide {
     /// Loads the directory of a call, by what was told.
     fn come(&mut self, call: &Call, told: &Told) -> Result<Arrived, GuideError>
         ensures comes { IfOk result (λ r. Comes ⟦<Told as Files>⟧ told.now call.now self.old r self.new) }
+        ensures placed { IfOk result (λ r. IsNewPlace call.now self.old.places r.place self.new.places) }
+        ensures as_before { OnErr result (IsSamePlaces self.old.places self.new.places) }
         ensures refused { IfErr result (λ e. CallRefused self.old.places call.now e) }
         ensures unchanged { IfErr result (λ e. IsUnchanged e self.old self.new) }
         ensures kept { KeepsPlaces self.old self.new }
@@ -121,6 +123,8 @@ impl Guide {
         is_all: bool,
     ) -> Result<Step, GuideError>
         ensures gives { IfOk result (λ step. StepGives ⟦<Told as Files>⟧ call told self.old step self.new) }
+        ensures placed { IfOk result (λ step. StepPlaces call self.old.places step self.new.places) }
+        ensures as_before { OnErr result (IsSamePlaces self.old.places self.new.places) }
         ensures refused { IfErr result (λ e. CallRefused self.old.places call e) }
         ensures unchanged { IfErr result (λ e. IsUnchanged e self.old self.new) }
         ensures kept { KeepsPlaces self.old self.new }
@@ -162,6 +166,8 @@ impl Guide {
     pub fn ask_root(&mut self, root: &str) -> Result<Step, GuideError>
         ensures gives { IfOk result (λ step. (told : Told) × IsFresh told
             × StepGives ⟦<Told as Files>⟧ (calls.Root root.now) told self.old step self.new) }
+        ensures placed { IfOk result (λ step. StepPlaces (calls.Root root.now) self.old.places step self.new.places) }
+        ensures as_before { OnErr result (IsSamePlaces self.old.places self.new.places) }
         ensures out_of_memory { IfErr result (λ e. e ≡ Memory) }
         ensures kept { KeepsPlaces self.old self.new }
         ensures gone { (place : Place) → IsGone self.old.places place → IsGone self.new.places place }
@@ -185,6 +191,8 @@ impl Guide {
     ) -> Result<Step, GuideError>
         ensures gives { IfOk result (λ step. (told : Told) × IsAlmostFresh told
             × StepGives ⟦<Told as Files>⟧ (calls.Enter parent name.now) told self.old step self.new) }
+        ensures placed { IfOk result (λ step. StepPlaces (calls.Enter parent name.now) self.old.places step self.new.places) }
+        ensures as_before { OnErr result (IsSamePlaces self.old.places self.new.places) }
         ensures kept { KeepsPlaces self.old self.new }
         ensures gone { (place : Place) → IsGone self.old.places place → IsGone self.new.places place }
         ensures same { IsSameGuide self.old self.new }
@@ -217,6 +225,8 @@ impl Guide {
     pub fn tell(&mut self, waiting: Waiting, given: &Given<'_>) -> Result<Step, GuideError>
         ensures gives { IfOk result (λ step. (told : Told) × IsToldOf waiting.question given.now waiting.told told
             × StepGives ⟦<Told as Files>⟧ waiting.call told self.old step self.new) }
+        ensures placed { IfOk result (λ step. StepPlaces waiting.call self.old.places step self.new.places) }
+        ensures as_before { OnErr result (IsSamePlaces self.old.places self.new.places) }
         ensures refused { IfErr result (λ e. CallRefused self.old.places waiting.call e) }
         ensures unchanged { IfErr result (λ e. IsUnchanged e self.old self.new) }
         ensures kept { KeepsPlaces self.old self.new }
