@@ -1,6 +1,5 @@
 -- How far a call of a guide has come whose host is asked.
 use Rattle.std.specs.Prelude.{◌≡◌, ℕ, ◌+◌, false, List, Option, None, Some, Result, Ok, Err, option_map, if◌then◌else◌}
-use Rattle.std.specs.BTreeMap.{get_by_text}
 use Rattle.std.specs.Str.{bytes_eq}
 use denote.Bor.{Bor}
 use Rattle.ignore_base.specs.Paths.{join_of}
@@ -16,6 +15,7 @@ use Rattle.ignore_files.specs.declared.files.Files.{Ghosts as Files}
 use Rattle.ignore_files.specs.declared.types.Contents.{Contents}
 use Rattle.ignore_files.specs.declared.types.FileType.{FileType}
 use Rattle.ignore_files.specs.declared.types.Metadata.{Metadata}
+use Rattle.ignore_guide.specs.Answers.{answer_at}
 use Rattle.ignore_guide.specs.Asking.{is_told}
 use Rattle.ignore_guide.specs.Guide.{IsRootBy, StandsFor, holding, root_reached}
 use Rattle.ignore_guide.specs.Names.{IsRefused}
@@ -95,7 +95,7 @@ path_by wanted.Canonical g = Some (path_answer g.path)
 
 -- what was told, and the answer to a question with it
 pub record IsToldOf (q : Question) (g : Given) (old new : Told) : Type 0 where
-  pub kinds : (text : Path) → get_by_text new.kinds text ≡ told_more q.path (kind_by q.wanted g) (get_by_text old.kinds) text
-  pub reads : (text : Path) → get_by_text new.reads text ≡ told_more q.path (read_by q.wanted g) (get_by_text old.reads) text
-  pub paths : (text : Path) → get_by_text new.paths text ≡ told_more q.path (path_by q.wanted g) (get_by_text old.paths) text
+  pub kinds : (text : Path) → answer_at new.kinds.list.items text ≡ told_more q.path (kind_by q.wanted g) (answer_at old.kinds.list.items) text
+  pub reads : (text : Path) → answer_at new.reads.list.items text ≡ told_more q.path (read_by q.wanted g) (answer_at old.reads.list.items) text
+  pub paths : (text : Path) → answer_at new.paths.list.items text ≡ told_more q.path (path_by q.wanted g) (answer_at old.paths.list.items) text
   pub lacked : new.lacked ≡ old.lacked

@@ -1,6 +1,6 @@
 //! A guide whose host is asked for what it needs, one path at a time.
-ghost use Rattle.std.specs.Prelude.{◌≡◌, IfErr, IfOk, List, OnOk, Some, string_bytes, ℕ};
-ghost use Rattle.std.specs.BTreeMap.{get_by_text};
+ghost use Rattle.std.specs.Prelude.{◌≡◌, IfErr, IfOk, List, OnOk, Some, ℕ};
+ghost use Rattle.ignore_guide.specs.Answers.{answer_at};
 ghost use Rattle.ignore_guide.specs.Guide.{IsSameGuide, IsUnchanged, KeepsPlaces};
 ghost use Rattle.ignore_guide.specs.Hosted.{CallRefused, Comes, IsToldOf, StepGives, kind_answer, path_answer, read_answer, told_more};
 ghost use Rattle.ignore_guide.specs.Names.{IsAsked, IsRefused};
@@ -224,7 +224,7 @@ impl Guide {
         ensures same { IsSameGuide self.old self.new }
     {
         let mut told = waiting.told;
-        take_down(self.alloc, &mut told, &waiting.question, given)?;
+        take_down(self.alloc, &mut told, waiting.question, given)?;
         self.go(waiting.call, told, waiting.rest, waiting.is_all)
     }
 
@@ -285,46 +285,46 @@ fn path_answer(alloc: Global, path: Result<&str, Fault>) -> Result<Result<Name, 
 }
 
 /// A copy of a path.
-fn copy_of(alloc: Global, path: &Name) -> Result<String, AllocError>
-    ensures { IfOk result (λ copy. string_bytes copy ≡ path.now) }
+fn copy_of(alloc: Global, path: &Name) -> Result<Name, AllocError>
+    ensures { IfOk result (λ copy. copy ≡ path.now) }
 {
-    Ok(String::from_str(alloc, path.as_str())?)
+    Name::from_str(alloc, path.as_str())
 }
 
 /// Takes down what a host tells of what a path leads to, and of the file there.
 fn take_file(
     alloc: Global,
     told: &mut Told,
-    path: &Name,
+    path: Name,
     given: &Given<'_>,
 ) -> Result<(), AllocError>
-    ensures kinds { OnOk result ((text : List ℕ) → get_by_text told.new.kinds text
-        ≡ told_more path.now (Some (kind_answer given.now.kind)) (get_by_text told.old.kinds) text) }
-    ensures reads { OnOk result ((text : List ℕ) → get_by_text told.new.reads text
-        ≡ told_more path.now (Some (read_answer given.now.bytes given.now.fault)) (get_by_text told.old.reads) text) }
+    ensures kinds { OnOk result ((text : List ℕ) → answer_at told.new.kinds.list.items text
+        ≡ told_more path (Some (kind_answer given.now.kind)) (answer_at told.old.kinds.list.items) text) }
+    ensures reads { OnOk result ((text : List ℕ) → answer_at told.new.reads.list.items text
+        ≡ told_more path (Some (read_answer given.now.bytes given.now.fault)) (answer_at told.old.reads.list.items) text) }
     ensures paths { told.new.paths ≡ told.old.paths }
     ensures lacked { told.new.lacked ≡ told.old.lacked }
 {
     let read = read_answer(alloc, given.bytes, given.fault)?;
-    told.add_read(copy_of(alloc, path)?, read)?;
-    told.add_kind(copy_of(alloc, path)?, kind_answer(given.kind))
+    told.add_read(copy_of(alloc, &path)?, read)?;
+    told.add_kind(path, kind_answer(given.kind))
 }
 
 /// Takes down what a host tells of a path. For dependents.
 pub fn take_down(
     alloc: Global,
     told: &mut Told,
-    question: &Question,
+    question: Question,
     given: &Given<'_>,
 ) -> Result<(), AllocError>
-    ensures { OnOk result (IsToldOf question.now given.now told.old told.new) }
+    ensures { OnOk result (IsToldOf question given.now told.old told.new) }
 {
     match question.wanted {
-        Wanted::Kind => { told.add_kind(copy_of(alloc, &question.path)?, kind_answer(given.kind)) }
-        Wanted::File => take_file(alloc, told, &question.path, given),
+        Wanted::Kind => told.add_kind(question.path, kind_answer(given.kind)),
+        Wanted::File => take_file(alloc, told, question.path, given),
         Wanted::Canonical => {
             let answer = path_answer(alloc, given.path)?;
-            told.add_path(copy_of(alloc, &question.path)?, answer)
+            told.add_path(question.path, answer)
         }
     }
 }

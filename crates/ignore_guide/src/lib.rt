@@ -2,6 +2,7 @@
 //! on the entries of each.
 #![tactic(auto)]
 
+pub mod answers;
 mod error;
 mod explain;
 mod free;
