@@ -77,12 +77,24 @@ impl Texts {
     }
 }
 
-/// Makes a text another with a name after it.
+/// Makes a text begin with another, unless it does.
+fn begin_with(text: &mut String, around: &str) -> Result<(), AllocError>
+    ensures { OnOk result ((rest : Bytes) × (string_bytes text.new ≡ around.now ++ rest)) }
+{
+    if text.starts_with(around) {
+        return Ok(());
+    }
+    text.clear();
+    text.push_str(around)?;
+    Ok(())
+}
+
+/// Makes a text another with a name after it. What the text begins with is kept, if it is that.
 fn put_after(text: &mut String, around: &str, name: &str) -> Result<(), AllocError>
     ensures { OnOk result (string_bytes text.new ≡ around.now ++ name.now) }
 {
-    text.clear();
-    text.push_str(around)?;
+    begin_with(text, around)?;
+    text.truncate(around.len());
     text.push_str(name)?;
     Ok(())
 }

@@ -50,7 +50,7 @@ struct Search<'t> {
 }
 
 /// Whether one of some questions is of a path.
-pub(crate) fn is_asked(questions: &[Question], path: &str) -> bool {
+fn is_asked(questions: &[Question], path: &str) -> bool {
     for question in questions {
         if question.path.as_str() == path {
             return true;

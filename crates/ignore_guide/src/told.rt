@@ -54,7 +54,7 @@ fn is_absent(lacked: &str, path: &str) -> bool
 }
 
 /// Whether nothing is at a path, since it is one of these, or below one.
-pub(crate) fn is_among(lacked: &[String], path: &str) -> bool
+fn is_among(lacked: &[String], path: &str) -> bool
     ensures { result ≡ list_any (λ l. is_absent (string_bytes l) path.now) lacked.now }
 {
     lacked.iter().any(|other| is_absent(other.as_str(), path))
