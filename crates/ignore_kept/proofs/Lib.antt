@@ -4,6 +4,7 @@ pub mod AsGit
 pub mod Asking
 pub mod Explaining
 pub mod Leading
+pub mod CutLemmas
 pub mod Decided
 pub mod Named
 pub mod Parting
