@@ -17,8 +17,10 @@ fn cut(text: &str) -> Option<(&str, &str)>
     ensures { MatchOption result (pieces text.now ≡ text.now ∷ [])
         (λ r. (pieces text.now ≡ r.0.now ∷ pieces r.1.now) × (length r.1.now < length text.now)) }
 {
-    let end = memchr(0, text.as_bytes())?;
-    Some((&text[..end], &text[end + 1..]))
+    match memchr(0, text.as_bytes()) {
+        Some(end) => Some((&text[..end], &text[end + 1..])),
+        None => None,
+    }
 }
 
 /// The texts between the zeros of a text.
