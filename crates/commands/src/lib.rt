@@ -3,7 +3,6 @@
 //! paths below a root.
 #![tactic(auto)]
 
-mod by_name;
 mod checking;
 pub mod internal;
 mod listing;

@@ -5,35 +5,31 @@ ghost use Rattle.std.specs.Iterator.{Drains, IsFinite, YieldsThen};
 ghost use Rattle.std.specs.List.{AllZip};
 ghost use Rattle.ignore_base.specs.Problem.{memory, problem_of};
 ghost use Rattle.ignore_base.specs.declared.error.Error.{Error};
-ghost use Rattle.ignore_files.specs.Gives.{IsHonest};
-ghost use Rattle.ignore_files.specs.Tree.{Tree};
 ghost use Rattle.ignore_walk.specs.Entry.{Item, item_of};
-ghost use Rattle.ignore.specs.Asked.{IsOutside};
-ghost use Rattle.ignore.specs.Builder.{unset};
+ghost use Rattle.ignore_walk.specs.declared.callbacks.Order.TheVariants.{ByName};
 ghost use Rattle.ignore_walk.specs.declared.entry.DirEntry.{DirEntry};
+ghost use Rattle.ignore.specs.Builder.{unset, with_order};
 ghost use Rattle.commands.specs.Listing.{IsOf, Lists, report_line, lines_of, reports_of, is_reported};
 ghost use Rattle.commands.specs.Stops.{EndsAfter, EndsReportedAfter, EndsUnreportedAfter, SaidBy};
-ghost use Rattle.commands.specs.Walking.{AreBegun, AreListed, IsTrimmed};
+ghost use Rattle.commands.specs.Walking.{AreBegunOf, AreListedOf, HasRoots, IsTrimmed};
 
-use crate::by_name::ByName;
 use crate::output::Output;
 use crate::stop::{Stop, report_stop};
 use crate::world::World;
 use crate::writing::write_line;
-use ignore::WalkBuilder;
+use ignore::walk_laws::{
+    a_builder_without_closures, a_finished_walk_has_no_other_list, a_finished_walk_is_the_headline,
+    a_run_begins_the_list, a_run_yields_the_list, only_the_last_item_ends,
+};
+use ignore::{Order, Owner, WalkBuilder, WalkOptions};
 use ignore_base::Error;
-use ignore_dir::{Outside, Settings};
 use ignore_files::{Files, Name};
-use ignore_walk::{DirEntry, Ground, Item, Options, Order, Walk, runs};
+use ignore_walk::{DirEntry, Item};
 use std::alloc::{AllocError, Global};
 use std::io::Write;
 
-/// By name, on any device, with a limit that ends a walk of links without end.
-const OPTIONS: Options = Options {
-    order: Order::ByName,
-    same_file_system: false,
-    limit: 1_000_000_000,
-};
+/// How many steps the walk of a list may take, so that one of links without end has an end.
+const MOST_STEPS: u64 = 1_000_000_000;
 
 /// Writes the paths of the entries of a walk of these roots, each on a line. What is wrong with an
 /// entry, or stands in its place, is reported on `err`. Names come in the order of texts, and the
@@ -49,14 +45,14 @@ pub fn list<F: Files, W: Output, E: Write>(
 ) -> Result<u8, Stop>
     ensures lists { IfOk result (λ status. ((items : List Item) × Lists items status
         (Appends (W.contents out.old) (W.contents out.new)) (Appends (E.contents err.old) (E.contents err.new))
-        × ((tree : Tree) → IsHonest F.Files world.now.files.now tree → AreListed tree world.now.env.now (map string_bytes roots.now) items))
+        × AreListedOf F.Files world.now.files.now world.now.env.now (map string_bytes roots.now) items)
         ⊎ ((status ≡ 2) × (items : List Item) × (next : Option Item) × EndsReportedAfter (SaidBy (W.fails out.new)) lines_of reports_of items next
         (Appends (W.contents out.old) (W.contents out.new)) (Appends (E.contents err.old) (E.contents err.new))
-        × ((tree : Tree) → IsHonest F.Files world.now.files.now tree → AreBegun tree world.now.env.now (map string_bytes roots.now) items next))) }
+        × AreBegunOf F.Files world.now.files.now world.now.env.now (map string_bytes roots.now) items next)) }
     ensures unreported { IfErr result (λ stop. (items : List Item) × (next : Option Item)
         × EndsUnreportedAfter lines_of reports_of items next (Appends (W.contents out.old) (W.contents out.new))
         (Appends (E.contents err.old) (E.contents err.new)) stop
-        × ((tree : Tree) → IsHonest F.Files world.now.files.now tree → AreBegun tree world.now.env.now (map string_bytes roots.now) items next)) }
+        × AreBegunOf F.Files world.now.files.now world.now.env.now (map string_bytes roots.now) items next) }
     ensures status { IfOk result (λ status. status ≤ 2) }
     ensures said { IfErr result (SaidBy (W.fails out.new)) }
 {
@@ -76,38 +72,54 @@ fn walk_and_write<F: Files, W: Output, E: Write>(
 ) -> Result<bool, Stop>
     ensures lists { IfOk result (λ any. (items : List Item) × Lists items (if any then 1 else 0)
         (Appends (W.contents out.old) (W.contents out.new)) (Appends (E.contents err.old) (E.contents err.new))
-        × ((tree : Tree) → IsHonest F.Files world.now.files.now tree → AreListed tree world.now.env.now (map string_bytes roots.now) items)) }
+        × AreListedOf F.Files world.now.files.now world.now.env.now (map string_bytes roots.now) items) }
     ensures ended { IfErr result (λ stop. (items : List Item) × (next : Option Item) × EndsAfter lines_of reports_of items next
         (Appends (W.contents out.old) (W.contents out.new)) (Appends (E.contents err.old) (E.contents err.new)) stop
-        × ((tree : Tree) → IsHonest F.Files world.now.files.now tree → AreBegun tree world.now.env.now (map string_bytes roots.now) items next)) }
+        × AreBegunOf F.Files world.now.files.now world.now.env.now (map string_bytes roots.now) items next) }
     ensures said { IfErr result (SaidBy (W.fails out.new)) }
 {
-    let Ok(names) = trimmed_roots(world.alloc, roots) else {
+    let Ok(options) = list_options(world.alloc, roots) else {
         return Err(Stop::Memory);
     };
-    let Ok(outside) = outside_of(world) else {
+    let builder = WalkBuilder::from_options(options);
+    let lent = &builder;
+    let Ok(walk) = lent.build(world.files, world.env) else {
         return Err(Stop::Memory);
     };
-    let ground = Ground {
-        alloc: world.alloc,
-        files: world.files,
-        owner: ByName,
-        settings: Settings::standard(world.alloc),
-        outside,
-        options: OPTIONS,
-    };
-    let walk = Walk::new(ground, names);
-    runs::a_run_yields_the_list::<F, ByName>();
-    runs::a_run_begins_the_list::<F, ByName>();
+    a_builder_without_closures(lent);
+    a_finished_walk_is_the_headline::<F, Owner<'static>>();
+    a_finished_walk_has_no_other_list::<F, Owner<'static>>();
+    only_the_last_item_ends::<F, Owner<'static>>();
+    a_run_yields_the_list::<F, Owner<'static>>();
+    a_run_begins_the_list::<F, Owner<'static>>();
     write_items(walk, out, err)
 }
 
-/// The rules from outside of the directories, by the settings of a new builder.
-fn outside_of<F: Files>(world: &World<'_, F>) -> Result<Outside, Error>
-    ensures read { (tree : Tree) → IsHonest F.Files world.now.files.now tree → IfOk result (IsOutside tree world.now.env.now unset) }
+/// The settings of a list of these roots: those at first, but by name.
+fn list_options(alloc: Global, roots: &[String]) -> Result<WalkOptions, Error>
+    ensures value { IfOk result (λ walk. HasRoots (map string_bytes roots.now) (with_order unset ByName) walk) }
 {
-    let builder = WalkBuilder::empty(world.alloc);
-    builder.outside(world.files, world.env)
+    let mut walk = WalkOptions::empty(alloc);
+    walk.sort(Order::ByName);
+    prepare_list(alloc, roots, &mut walk)?;
+    Ok(walk)
+}
+
+/// Adds roots, without the slashes at their ends, to the settings of a walk, and sets the limit of
+/// steps of a list.
+///
+/// # Errors
+/// `Error::Memory` alone.
+pub fn prepare_list(alloc: Global, roots: &[String], walk: &mut WalkOptions) -> Result<(), Error>
+    ensures added { OnOk result (HasRoots (map string_bytes roots.now) walk.old walk.new) }
+    ensures out_of_memory { IfErr result (λ e. problem_of e ≡ memory) }
+{
+    let names = trimmed_roots(alloc, roots)?;
+    for name in names {
+        walk.push_root(name.as_str())?;
+    }
+    walk.limit(MOST_STEPS);
+    Ok(())
 }
 
 /// The roots without the slashes at their ends.

@@ -12,7 +12,7 @@ ghost use Rattle.commands.specs.Checking.{AreAnswers, AreAnswersSoFar, AreFirst,
 ghost use Rattle.commands.specs.Listing.{Lists, lines_of, reports_of};
 ghost use Rattle.commands.specs.Matching.{Prints};
 ghost use Rattle.commands.specs.Stops.{BreaksOff, EndsReported, EndsReportedAfter, GoneReported, GoneReportedAfter, GoneUnreported, GoneUnreportedAfter, SaidBy, reason};
-ghost use Rattle.commands.specs.Walking.{AreBegun, AreListed};
+ghost use Rattle.commands.specs.Walking.{AreBegunOf, AreListedOf};
 ghost use Rattle.commands.specs.Words.{Question, command_of, of_check, of_list, of_match};
 
 use crate::run::run;
@@ -74,10 +74,10 @@ pub fn run_buffered<F: Files, W: Write + Drop, E: Write>(
     ensures lists { (roots : List Path) → command_of (map string_bytes words.now) ≡ Some (of_list roots)
         → IfOk result (λ r. IfSome r.1 (λ w. ((items : List Item) × Lists items r.0
         (Appends (W.contents out) (W.contents w)) (Appends (E.contents err.old) (E.contents err.new))
-        × ((tree : Tree) → IsHonest F.Files world.now.files.now tree → AreListed tree world.now.env.now roots items))
+        × AreListedOf F.Files world.now.files.now world.now.env.now roots items)
         ⊎ ((r.0 ≡ 2) × (items : List Item) × (next : Option Item) × EndsReportedAfter (SaidBy (λ kind. ⊤)) lines_of reports_of items next
         (Appends (W.contents out) (W.contents w)) (Appends (E.contents err.old) (E.contents err.new))
-        × ((tree : Tree) → IsHonest F.Files world.now.files.now tree → AreBegun tree world.now.env.now roots items next)))) }
+        × AreBegunOf F.Files world.now.files.now world.now.env.now roots items next))) }
     ensures checks { (root : Path) (paths : List Path) → command_of (map string_bytes words.now) ≡ Some (of_check root paths)
         → IfOk result (λ r. IfSome r.1 (λ w. ((all : List Checked) × Checks paths all r.0
         (Appends (W.contents out) (W.contents w)) (Appends (E.contents err.old) (E.contents err.new))
@@ -99,13 +99,13 @@ pub fn run_buffered<F: Files, W: Write + Drop, E: Write>(
     ensures gone_list { (roots : List Path) → command_of (map string_bytes words.now) ≡ Some (of_list roots)
         → IfOk result (λ r. r.1 ≡ None → (items : List Item) × (next : Option Item)
         × GoneReportedAfter reports_of items next (Appends (E.contents err.old) (E.contents err.new))
-        × ((tree : Tree) → IsHonest F.Files world.now.files.now tree
-        → AreBegun tree world.now.env.now roots items next ⊎ AreListed tree world.now.env.now roots items)) }
+        × (AreBegunOf F.Files world.now.files.now world.now.env.now roots items next
+        ⊎ AreListedOf F.Files world.now.files.now world.now.env.now roots items)) }
     ensures unreported_list { (roots : List Path) → command_of (map string_bytes words.now) ≡ Some (of_list roots)
         → IfErr result (λ stop. (items : List Item) × (next : Option Item)
         × GoneUnreportedAfter reports_of items next (Appends (E.contents err.old) (E.contents err.new)) stop
-        × ((tree : Tree) → IsHonest F.Files world.now.files.now tree
-        → AreBegun tree world.now.env.now roots items next ⊎ AreListed tree world.now.env.now roots items)) }
+        × (AreBegunOf F.Files world.now.files.now world.now.env.now roots items next
+        ⊎ AreListedOf F.Files world.now.files.now world.now.env.now roots items)) }
     ensures gone_check { (root : Path) (paths : List Path) → command_of (map string_bytes words.now) ≡ Some (of_check root paths)
         → IfOk result (λ r. r.1 ≡ None → (all : List Checked) × (next : Option Checked) × AreFirst paths (with_next all next)
         × GoneReportedAfter report_for all next (Appends (E.contents err.old) (E.contents err.new))

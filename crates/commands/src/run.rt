@@ -12,7 +12,7 @@ ghost use Rattle.ignore_rules.specs.Rules.{begun, built};
 ghost use Rattle.ignore_walk.specs.Entry.{Item};
 ghost use Rattle.commands.specs.Listing.{Lists, lines_of, reports_of};
 ghost use Rattle.commands.specs.Checking.{AreAnswers, AreAnswersSoFar, AreFirst, Checked, Checks, line_for, report_for, with_next};
-ghost use Rattle.commands.specs.Walking.{AreBegun, AreListed};
+ghost use Rattle.commands.specs.Walking.{AreBegunOf, AreListedOf};
 ghost use Rattle.commands.specs.Words.{Question, command_of, of_check, of_list, of_match, request_view};
 ghost use Rattle.commands.specs.Stops.{BreaksOff, Ends, EndsAnswer, EndsLine, EndsLines, EndsReported, EndsReportedAfter, EndsUnreported, EndsUnreportedAfter, SaidBy, line_stop, reason};
 ghost use Rattle.commands.specs.Matching.{AddsAll, AddsOne, Prints, answer_line, answer_of, refusal};
@@ -200,15 +200,15 @@ pub fn run<F: Files, W: Output, E: Write>(
     ensures lists { (roots : List Path) → command_of (map string_bytes words.now) ≡ Some (of_list roots)
         → IfOk result (λ status. ((items : List Item) × Lists items status
         (Appends (W.contents out.old) (W.contents out.new)) (Appends (E.contents err.old) (E.contents err.new))
-        × ((tree : Tree) → IsHonest F.Files world.now.files.now tree → AreListed tree world.now.env.now roots items))
+        × AreListedOf F.Files world.now.files.now world.now.env.now roots items)
         ⊎ ((status ≡ 2) × (items : List Item) × (next : Option Item) × EndsReportedAfter (SaidBy (W.fails out.new)) lines_of reports_of items next
         (Appends (W.contents out.old) (W.contents out.new)) (Appends (E.contents err.old) (E.contents err.new))
-        × ((tree : Tree) → IsHonest F.Files world.now.files.now tree → AreBegun tree world.now.env.now roots items next))) }
+        × AreBegunOf F.Files world.now.files.now world.now.env.now roots items next)) }
     ensures unreported_list { (roots : List Path) → command_of (map string_bytes words.now) ≡ Some (of_list roots)
         → IfErr result (λ stop. (items : List Item) × (next : Option Item)
         × EndsUnreportedAfter lines_of reports_of items next (Appends (W.contents out.old) (W.contents out.new))
         (Appends (E.contents err.old) (E.contents err.new)) stop
-        × ((tree : Tree) → IsHonest F.Files world.now.files.now tree → AreBegun tree world.now.env.now roots items next)) }
+        × AreBegunOf F.Files world.now.files.now world.now.env.now roots items next) }
     ensures checks { (root : Path) (paths : List Path) → command_of (map string_bytes words.now) ≡ Some (of_check root paths)
         → IfOk result (λ status. ((all : List Checked) × Checks paths all status
         (Appends (W.contents out.old) (W.contents out.new)) (Appends (E.contents err.old) (E.contents err.new))

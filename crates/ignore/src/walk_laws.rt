@@ -4,7 +4,6 @@ ghost use Rattle.std.specs.Cmp.{IsStrictWeakOrder};
 ghost use Rattle.std.specs.Iterator.{Drains, YieldsThen};
 ghost use Rattle.std.specs.Ordering.{is_lt};
 ghost use Rattle.std.specs.declared.cmp.Ordering.{Ordering};
-ghost use Rattle.std.specs.declared.cmp.Ordering.TheVariants.{Equal};
 ghost use denote.Bor.{Bor};
 ghost use Rattle.ignore_base.specs.Text.{Path};
 ghost use Rattle.ignore_base.specs.declared.error.Error.{Error};
@@ -27,10 +26,11 @@ ghost use Rattle.ignore_walk.specs.Visits.{IsYielded};
 ghost use Rattle.ignore_walk.specs.Walked.{WalkedOne};
 ghost use Rattle.ignore_walk.specs.Whole.{Whole, root_entry};
 ghost use Rattle.ignore_walk.specs.declared.callbacks.Order.{Order};
+ghost use Rattle.ignore_walk.specs.declared.callbacks.Order.TheVariants.{Listed};
 ghost use Rattle.ignore_walk.specs.declared.entry.DirEntry.{DirEntry};
 ghost use Rattle.ignore.specs.Agreement.{IsKeptByOne, IsMatcherIn, IsReached, answer_at, matcher_root};
 ghost use Rattle.ignore.specs.Asked.{IsOutside};
-ghost use Rattle.ignore.specs.Closures.{order_of};
+ghost use Rattle.ignore.specs.Closures.{ComparesTexts, IsBare, chosen_order, no_closures, order_of};
 ghost use Rattle.ignore.specs.Finished.{IsFinished};
 ghost use Rattle.ignore.specs.Headline.{Headline, IsOnlyList, IsSceneOf, IsTheList};
 ghost use Rattle.ignore.specs.Matchers.{AreMatchers};
@@ -159,21 +159,34 @@ pub fn a_scene_without_closures(builder: &WalkBuilder)
 
 /// The same of a builder with closures that answer by functions: its comparison by one of an order
 /// in which two may tie, and its filter by one of entries, where it is asked about those without an
-/// error. The scene has this filter and this order. Where none is set, all texts tie, and each
-/// entry passes.
+/// error. The scene has this filter and this order. Where none is set, texts compare as such, and
+/// each entry passes.
 pub fn a_scene_with_closures(builder: &WalkBuilder)
     ensures { (tree : Tree) (outside : Outside) (keep : Entry → Bool) (cmp : Path → Path → Ordering)
         → IsStrictWeakOrder (λ a b. is_lt (cmp a b))
-        → MatchOption builder.now.sorter ((a b : Path) → cmp a b ≡ Equal)
+        → MatchOption builder.now.sorter (ComparesTexts cmp)
         (λ s. (a b : Bor Path) (order : Ordering) → Compare.post s.compare a b order → order ≡ cmp a.now b.now)
         → MatchOption builder.now.filter ((e : Entry) → keep e ≡ true)
         (λ f. (e : Bor DirEntry) (yes : Bool) → problem_in e.now ≡ None → Keep.post f.keep e yes → yes ≡ keep (entry_of e.now))
         → (g : Scene) × IsSceneOf ⟦<Owner<'static> as Callbacks>⟧ (record { builder = Some builder.entry }) builder.now.options
         (order_of (λ s. s.order) builder.now.sorter) tree outside g
-        × (g.keep ≡ keep) × (g.order ≡ order_by (order_of (λ s. s.order) builder.now.sorter) cmp) }
+        × (g.keep ≡ keep) × (g.order ≡ order_by (chosen_order builder.now.options (order_of (λ s. s.order) builder.now.sorter)) cmp) }
 {
     one_load();
 }
+
+/// A walk of a builder without closures goes by its options alone: the builder answers as if nobody
+/// asked it (`answers`), so a scene of the options, in which each entry passes and texts compare as
+/// such, is one of the walk (`scenes`). So what has the headline, or is no other list, in the scenes of
+/// the walk, is so in those of the options, where no builder is named.
+pub fn a_builder_without_closures(builder: &WalkBuilder)
+    ensures answers { builder.now.sorter ≡ None → builder.now.filter ≡ None
+        → IsBare ⟦<Owner<'static> as Callbacks>⟧ (record { builder = Some builder.entry }) }
+    ensures scenes { (tree : Tree) (outside : Outside) (g : Scene) → builder.now.sorter ≡ None → builder.now.filter ≡ None
+        → IsSceneOf no_closures tt builder.now.options Listed tree outside g
+        → IsSceneOf ⟦<Owner<'static> as Callbacks>⟧ (record { builder = Some builder.entry }) builder.now.options
+        (order_of (λ s. s.order) builder.now.sorter) tree outside g }
+{}
 
 /// What a walk yields is what the matchers of its builder keep. Each of them goes by the settings
 /// and the rules from outside of the walk, and its root is one of the walk's (`matchers`). Where the

@@ -77,7 +77,7 @@ returns-in_default-clause-gone g c = λ question is none.
 
 pub returns-in_default-clause-gone_list : goal.returns-in_default-clause-gone_list
 returns-in_default-clause-gone_list g c = λ roots is none.
-    let k = c.in_ok-report_stop.ensures.reports in ([], None, (Memory, k.1, k.2), λ tree honest. inl (inl (refl, refl)))
+    let k = c.in_ok-report_stop.ensures.reports in ([], None, (Memory, k.1, k.2), inl (inl (refl, refl)))
 
 pub returns-in_default-clause-gone_check : goal.returns-in_default-clause-gone_check
 returns-in_default-clause-gone_check g c = λ root paths is none.
@@ -100,7 +100,7 @@ pub returns-in_err-report_stop-clause-unreported_list : goal.returns-in_err-repo
 returns-in_err-report_stop-clause-unreported_list g c = λ roots is.
     let k = c.in_err-report_stop.ensures.unreported in
     let p = err_from_is_err_and c.from_residual.result c.from_residual.ensures.1 in
-    rw (p.1, p.2, k.0) ([], None, k.1, λ tree honest. inl (inl (refl, refl)))
+    rw (p.1, p.2, k.0) ([], None, k.1, inl (inl (refl, refl)))
 
 pub returns-in_err-report_stop-clause-unreported_check : goal.returns-in_err-report_stop-clause-unreported_check
 returns-in_err-report_stop-clause-unreported_check g c = λ root paths is.
@@ -131,7 +131,7 @@ returns-in_err-status-clause-unreported_list g c = λ roots is.
       h.0,
       h.1,
       after_gone lines_of reports_of h.0 h.1 out (λ bs. BreaksOff bs (reason stop) err) stop h.2,
-      λ tree honest. inl (h.3 tree honest),
+      inl h.3,
     )
 
 pub returns-in_err-status-clause-unreported_check : goal.returns-in_err-status-clause-unreported_check
@@ -161,7 +161,7 @@ returns-in_ok-report_stop-in-None-clause-gone_list g c = λ roots is none.
         items,
         None,
         (Write, k.1, appends_on (g.E.Write.contents c.args.err.now) (g.E.Write.contents c.run.new.err) (g.E.Write.contents c.report_stop-in-None.new.err) (flat_map reports_of items) (reason Write) h.reports k.2),
-        λ tree honest. inr (are tree honest),
+        inr are,
       )
       | inr (two, items, next, h, begun) ↦ absurd (omega (arith, two, c.if-status-lt2.true))
     ]
@@ -204,7 +204,7 @@ returns-in_err-report_stop-in-None-clause-unreported_list g c = λ roots is.
         items,
         None,
         cut_after (g.E.Write.contents c.args.err.now) (g.E.Write.contents c.run.new.err) (g.E.Write.contents c.report_stop-in-None.new.err) (flat_map reports_of items) (reason Write) h.reports k.1,
-        λ tree honest. inr (are tree honest),
+        inr are,
       )
       | inr (two, items, next, h, begun) ↦ absurd (omega (arith, two, c.if-status-lt2.true))
     ])
@@ -242,7 +242,7 @@ returns-in-None-2-clause-gone_list g c = λ roots is none.
     elim (c.in_ok-status.ensures.lists roots is) [
       | inl (items, h, are) ↦ absurd (list_low items c.in_ok-status.status out err h c.if-status-lt2.false)
       | inr (two, items, next, h, begun) ↦
-          (items, next, after_reported (SaidBy (λ kind. Unit {0})) lines_of reports_of items next out err h, λ tree honest. inl (begun tree honest))
+          (items, next, after_reported (SaidBy (λ kind. Unit {0})) lines_of reports_of items next out err h, inl begun)
     ]
 
 pub returns-in-None-2-clause-gone_check : goal.returns-in-None-2-clause-gone_check

@@ -8,7 +8,7 @@ use Rattle.commands.specs.Checking.{AreAnswers, AreAnswersSoFar, AreFirst, Check
 use Rattle.commands.specs.Listing.{Lists, lines_of, reports_of}
 use Rattle.commands.specs.Matching.{Prints}
 use Rattle.commands.specs.Stops.{EndsReported, EndsReportedAfter, EndsUnreported, EndsUnreportedAfter, SaidBy}
-use Rattle.commands.specs.Walking.{AreBegun, AreListed}
+use Rattle.commands.specs.Walking.{AreBegunOf, AreListedOf}
 use Rattle.commands.specs.Words.{Question, command_view, of_check, of_list, of_match, request_view}
 use Rattle.commands.proofs.run.run.Goals as goal
 
@@ -42,9 +42,9 @@ returns-in-Some-List-clause-lists g c = λ roots is.
     let err = Appends (g.E.Write.contents c.args.err.now) (g.E.Write.contents c.list.new.err) in
     subst (λ (rs : List (List ℕ)). IfOk c.list.result (λ status.
     ((items : List Item) × Lists items status out err
-    × ((tree : Tree) → IsHonest g.F.Files c.args.world.now.files.now tree → AreListed tree c.args.world.now.env.now rs items))
+    × AreListedOf g.F.Files c.args.world.now.files.now c.args.world.now.env.now rs items)
     ⊎ ((status ≡ 2) × (items : List Item) × (next : Option Item) × EndsReportedAfter (SaidBy (g.W.Output.fails c.list.new.out)) lines_of reports_of items next out err
-    × ((tree : Tree) → IsHonest g.F.Files c.args.world.now.files.now tree → AreBegun tree c.args.world.now.env.now rs items next)))) same c.list.ensures.lists
+    × AreBegunOf g.F.Files c.args.world.now.files.now c.args.world.now.env.now rs items next))) same c.list.ensures.lists
 
 pub returns-in-Some-List-clause-unreported_list : goal.returns-in-Some-List-clause-unreported_list
 returns-in-Some-List-clause-unreported_list g c = λ roots is.
@@ -55,7 +55,7 @@ returns-in-Some-List-clause-unreported_list g c = λ roots is.
     let err = Appends (g.E.Write.contents c.args.err.now) (g.E.Write.contents c.list.new.err) in
     subst (λ (rs : List (List ℕ)). IfErr c.list.result (λ stop. (items : List Item) × (next : Option Item)
     × EndsUnreportedAfter lines_of reports_of items next out err stop
-    × ((tree : Tree) → IsHonest g.F.Files c.args.world.now.files.now tree → AreBegun tree c.args.world.now.env.now rs items next))) same c.list.ensures.unreported
+    × AreBegunOf g.F.Files c.args.world.now.files.now c.args.world.now.env.now rs items next)) same c.list.ensures.unreported
 
 -- the paths that are asked about are those of the words
 pub returns-in-Some-Check-clause-checks : goal.returns-in-Some-Check-clause-checks
