@@ -4,22 +4,14 @@ ghost use Rattle.std.specs.Io.KnownBytes.{Appends};
 ghost use Rattle.std.specs.Iterator.{Drains, IsFinite, YieldsThen};
 ghost use Rattle.std.specs.List.{flat_map, list_any};
 ghost use Rattle.ignore_base.specs.Problem.{memory, problem_of};
-ghost use Rattle.ignore_base.specs.Text.{Path};
 ghost use Rattle.ignore_base.specs.declared.error.Error.{Error};
-ghost use Rattle.ignore_dir.specs.Load.{AreLoads, Loaded};
-ghost use Rattle.ignore_dir.specs.declared.outside.Outside.{Outside};
-ghost use Rattle.ignore_files.specs.Gives.{IsHonest};
-ghost use Rattle.ignore_files.specs.Tree.{Tree};
 ghost use Rattle.ignore_walk.specs.Entry.{Item, entry_of, item_of, problem_in};
-ghost use Rattle.ignore_walk.specs.GoesOn.{HasNoEnd};
 ghost use Rattle.ignore_walk.specs.declared.entry.DirEntry.{DirEntry};
-ghost use Rattle.ig_options.specs.Settings.{most_steps};
 ghost use Rattle.ig_commands.specs.Folders.{last_in};
-ghost use Rattle.ig_commands.specs.Listing.{AreBegun, AreFirst, AreListed, Begins, EndsAsked, GoesBy, Lists, ListsAsked, Writes, begun_reports, listing};
+ghost use Rattle.ig_commands.specs.Listing.{AreBegunOf, AreFirstOf, AreListedOf, EndsAsked, Lists, ListsAsked, Writes, begun_reports};
 ghost use Rattle.ig_commands.specs.Names.{still, told_at, told_before, with_name};
 ghost use Rattle.ig_commands.specs.Reports.{Notes, fault_names, fault_told, first_reports, is_known, is_reported, name_depth, names_after, names_left, place_at, report_of, reports_of, to_report, whole_reports};
 ghost use Rattle.ig_commands.specs.Stops.{EndsAfter, IsOther, SaidBy};
-ghost use Rattle.ig_commands.specs.Walked.{AreFirstWalked, AreWalked, IsFor, IsWalkOf};
 ghost use Rattle.ig_commands.specs.Writing.{is_found, is_listed, lines_of};
 
 use crate::asking::{Asked, asked_for};
@@ -30,18 +22,19 @@ use crate::reports::{name_depth, place_at, report_all, report_fault, report_rule
 use crate::stop::Stop;
 use crate::writing::{is_listed, refuse_or_end, write_path};
 use commands::{Output, World};
-use commands::internal::{ByName, trimmed_roots};
+use commands::internal::prepare_list;
 use ig_options::Options;
-use ignore::{WalkBuilder, WalkOptions};
+use ignore::walk_laws::{
+    a_builder_without_closures, a_finished_walk_has_no_other_list, a_finished_walk_is_the_headline,
+    a_run_begins_the_list, a_run_yields_the_list, only_the_last_item_ends,
+};
+use ignore::{Owner, WalkBuilder, WalkOptions};
 use ignore_base::Error;
 use ignore_files::{FileType, Files};
 use ignore_types::types::TypesBuilder;
-use ignore_walk::{Callbacks, DirEntry, Ground, Item, Walk, runs};
+use ignore_walk::{DirEntry, Item};
 use std::alloc::Global;
 use std::io::Write;
-
-/// How many steps a walk may take.
-const MOST_STEPS: u64 = 1_000_000_000;
 
 /// Writes the paths of the entries of the walk that the options ask for. `first` has the file types
 /// that exist without `--type-add`. What is wrong with an entry, or stands in its place, is reported
@@ -80,12 +73,10 @@ fn report_and_walk<F: Files, W: Output, E: Write>(
 ) -> Result<u8, Stop>
     ensures lists { IfOk result (λ status. (items : List Item) × Lists options.now (map (option_map problem_of) asked.errors.items) items
         status (Appends (W.contents out.old) (W.contents out.new)) (Appends (E.contents err.old) (E.contents err.new))
-        × (IsFor options.now asked.walk → AreWalked F.Files world.now.files.now world.now.env.now options.now asked.walk items)
-        × ((tree : Tree) → IsHonest F.Files world.now.files.now tree → AreListed tree world.now.env.now options.now asked.walk items)) }
+        × AreListedOf F.Files world.now.files.now world.now.env.now options.now asked.walk items) }
     ensures ended { IfErr result (λ stop. (items : List Item) × EndsAfter (flat_map (lines_of options.now) items)
         (begun_reports options.now (map (option_map problem_of) asked.errors.items) items) (Appends (W.contents out.old) (W.contents out.new)) (Appends (E.contents err.old) (E.contents err.new)) stop
-        × (IsFor options.now asked.walk → AreFirstWalked F.Files world.now.files.now world.now.env.now options.now asked.walk items)
-        × ((tree : Tree) → IsHonest F.Files world.now.files.now tree → AreFirst tree world.now.env.now options.now asked.walk items)) }
+        × AreFirstOf F.Files world.now.files.now world.now.env.now options.now asked.walk items) }
     ensures said { IfErr result (SaidBy (W.fails out.new)) }
 {
     let reported = report_all(&asked.errors, err)?;
@@ -102,64 +93,34 @@ fn report_and_walk<F: Files, W: Output, E: Write>(
 fn walk_and_write<F: Files, W: Output, E: Write>(
     world: &World<'_, F>,
     options: &Options,
-    walk: WalkOptions,
+    mut walk: WalkOptions,
     out: &mut W,
     err: &mut E,
 ) -> Result<Counts, Stop>
     ensures lists { IfOk result (λ counts. (items : List Item) × Writes options.now items (whole_reports options.now items) counts.reported counts.found (Appends (W.contents out.old) (W.contents out.new)) (Appends (E.contents err.old) (E.contents err.new))
-        × (IsFor options.now walk → AreWalked F.Files world.now.files.now world.now.env.now options.now walk items)
-        × ((tree : Tree) → IsHonest F.Files world.now.files.now tree → AreListed tree world.now.env.now options.now walk items)) }
+        × AreListedOf F.Files world.now.files.now world.now.env.now options.now walk items) }
     ensures ended { IfErr result (λ stop. (items : List Item) × EndsAfter (flat_map (lines_of options.now) items)
         (first_reports options.now items) (Appends (W.contents out.old) (W.contents out.new)) (Appends (E.contents err.old) (E.contents err.new)) stop
-        × (IsFor options.now walk → AreFirstWalked F.Files world.now.files.now world.now.env.now options.now walk items)
-        × ((tree : Tree) → IsHonest F.Files world.now.files.now tree → AreBegun tree world.now.env.now options.now walk items)) }
+        × AreBegunOf F.Files world.now.files.now world.now.env.now options.now walk items) }
     ensures said { IfErr result (SaidBy (W.fails out.new)) }
 {
-    let Ok(steps) = walk_of(world, options, walk) else {
+    let Ok(()) = prepare_list(world.alloc, &options.roots, &mut walk) else {
         return Err(Stop::Memory);
     };
-    runs::a_run_yields_the_list::<F, ByName>();
-    runs::a_finished_run_is_a_list::<F, ByName>();
-    runs::only_the_last_item_ends::<F, ByName>();
-    runs::a_run_begins_the_list::<F, ByName>();
+    let builder = WalkBuilder::from_options(walk);
+    let lent = &builder;
+    let Ok(steps) = lent.build(world.files, world.env) else {
+        return Err(Stop::Memory);
+    };
+    a_builder_without_closures(lent);
+    a_finished_walk_is_the_headline::<F, Owner<'static>>();
+    a_finished_walk_has_no_other_list::<F, Owner<'static>>();
+    only_the_last_item_ends::<F, Owner<'static>>();
+    a_run_yields_the_list::<F, Owner<'static>>();
+    a_run_begins_the_list::<F, Owner<'static>>();
     let walked = write_items(steps, options, world.alloc, out, err)?;
     end_names(&walked.names, err)?;
     Ok(walked.counts)
-}
-
-/// The walk of the roots by these settings.
-fn walk_of<'a, F: Files>(
-    world: &World<'a, F>,
-    options: &Options,
-    walk: WalkOptions,
-) -> Result<Walk<'a, F, ByName>, Error>
-    ensures walks { (tree : Tree) → IsHonest F.Files world.now.files.now tree
-        → IfOk result (λ w. (roots : List Path) × (outside : Outside) × GoesBy tree world.now.env.now options.now walk roots outside
-        × ((loads : Path → Loaded) → AreLoads tree walk.settings loads
-        → Begins F.Files ⟦<ByName as Callbacks>⟧ (listing options.now walk tree loads outside) w roots)) }
-    ensures goes_by { IsFor options.now walk → IfOk result (IsWalkOf F.Files world.now.files.now world.now.env.now options.now walk) }
-    ensures no_end { IfOk result (λ w. HasNoEnd w.stack) }
-    ensures limit { IfOk result (λ w. w.left ≡ most_steps) }
-    ensures goes_on { IfOk result (λ w. w.ended ≡ false) }
-{
-    let names = trimmed_roots(world.alloc, &options.roots)?;
-    let walk_options = ignore_walk::Options {
-        order: options.order,
-        same_file_system: options.one_file_system,
-        limit: MOST_STEPS,
-    };
-    let builder = WalkBuilder::from_options(walk);
-    let settings = builder.settings().clone()?;
-    let outside = builder.outside(world.files, world.env)?;
-    let ground = Ground {
-        alloc: world.alloc,
-        files: world.files,
-        owner: ByName,
-        settings,
-        outside,
-        options: walk_options,
-    };
-    Ok(Walk::new(ground, names))
 }
 
 /// What was counted in a walk: what was found and reported, and the names that aren't UTF-8 which are
