@@ -17,10 +17,11 @@ use Rattle.ignore_walk.specs.Scene.{Scene}
 use Rattle.ignore_walk.specs.Whole.{Whole}
 use Rattle.ignore.specs.Asked.{IsOutside}
 use Rattle.ignore.specs.Builder.{unset, with_root}
+use Rattle.ignore.specs.Headline.{IsBareScene}
 use Rattle.ignore.specs.declared.options.WalkOptions.{WalkOptions}
 use Rattle.commands.specs.Checking.{AreAnswers, AreAnswersSoFar, Checked, IsAnswer, ReportsInTurn}
 use Rattle.commands.specs.Listing.{Lists, lines_of, reports_of}
-use Rattle.commands.specs.Walking.{AreBegun, AreListed, HasRoots, IsPlain, most_steps}
+use Rattle.commands.specs.Walking.{AreBegun, AreListed, HasRoots, most_steps}
 
 -- a list writes the paths of its items, and reports their problems
 Lists-writes : (items : List Item) (status : ℕ) (out err : Bytes → Type 0) → Lists items status out err
@@ -28,7 +29,7 @@ Lists-writes : (items : List Item) (status : ℕ) (out err : Bytes → Type 0) �
 Lists-writes items status out err h = (h.lists, h.reports)
 
 module _ {F : Type 0} (files : Files F) (f : F) (env : Env) (b : WalkOptions) (tree : Tree) (all items : List Item) (g : Scene) (n : ℕ)
-    (honest : IsHonest files f tree) (plain : (o : Outside) → IsOutside tree env b o → IsPlain b tree o g)
+    (honest : IsHonest files f tree) (plain : (o : Outside) → IsOutside tree env b o → IsBareScene b tree o g)
     (walk : Whole g b.roots items n) where
   -- where the walk of some settings is known, and stays within the limit, its items are listed
   AreListed-all : AreListed files f env b all → n ≤ b.limit → all ≡ items

@@ -22,11 +22,11 @@ use Rattle.ignore_walk.specs.declared.walk.Walk.{Walk}
 use Rattle.ignore.proofs.HeadlineLemmas.{scene_suits}
 use Rattle.ignore.specs.Closures.{no_closures, options_of}
 use Rattle.ignore.specs.Finished.{IsEnd, IsFinished}
-use Rattle.ignore.specs.Headline.{Headline, IsOnlyList, IsSceneOf}
+use Rattle.ignore.specs.Headline.{Headline, IsBareScene, IsOnlyList, IsSceneOf}
 use Rattle.ignore.specs.Walks.{IsWalkBy}
 use Rattle.ignore.specs.declared.options.WalkOptions.{WalkOptions}
 use Rattle.commands.specs.Listing.{IsOf}
-use Rattle.commands.specs.Walking.{AreBegun, AreListed, ComesNext, IsCut, IsPlain}
+use Rattle.commands.specs.Walking.{AreBegun, AreListed, ComesNext, IsCut}
 
 -- an item after which a walk goes on ends none
 not_end : (item : Item) → GoesOn item → IsEnd item → ⊥
@@ -90,8 +90,8 @@ comes_next item (Some i) rest limit left n own is (inr (inr (cut, few))) = inr (
 
 -- a walk by these settings whose owner answers as if there were no closures
 module _ {F S : Type 0} (files : Files F) (calls : Callbacks S) (f : F) (owner : S) (env : Env) (b : WalkOptions) (order : Order)
-    (bare : (t : Tree) (o : Outside) (g : Scene) → IsPlain b t o g → IsSceneOf calls owner b order t o g) where
-  suits : (t : Tree) (o : Outside) (g : Scene) → IsHonest files f t → IsPlain b t o g
+    (bare : (t : Tree) (o : Outside) (g : Scene) → IsBareScene b t o g → IsSceneOf calls owner b order t o g) where
+  suits : (t : Tree) (o : Outside) (g : Scene) → IsHonest files f t → IsBareScene b t o g
       → Suits files calls f owner b.settings o (options_of b order) g
   suits t o g honest plain = scene_suits files calls f owner b order t o g honest (bare t o g plain)
 

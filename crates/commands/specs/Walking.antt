@@ -4,17 +4,15 @@ use Rattle.std.specs.List.{AllZip}
 use Rattle.ignore_base.specs.declared.fault.Fault.TheVariants.{StepLimit}
 use Rattle.ignore_base.specs.Problem.{io}
 use Rattle.ignore_base.specs.Text.{Bytes, Path, slash}
-use Rattle.ignore_dir.specs.declared.outside.Outside.{Outside}
 use Rattle.ignore_files.specs.Gives.{IsHonest}
 use Rattle.ignore_files.specs.Tree.{Tree}
 use Rattle.ignore_files.specs.declared.env.Env.{Env}
 use Rattle.ignore_files.specs.declared.files.Files.{Ghosts as Files}
 use Rattle.ignore_walk.specs.Entry.{Item}
-use Rattle.ignore_walk.specs.Scene.{Scene}
 use Rattle.ignore_walk.specs.declared.callbacks.Order.TheVariants.{ByName, Listed}
 use Rattle.ignore.specs.Builder.{unset, with_limit, with_order, with_roots}
 use Rattle.ignore.specs.Closures.{no_closures}
-use Rattle.ignore.specs.Headline.{Headline, IsOnlyList, IsSceneOf}
+use Rattle.ignore.specs.Headline.{Headline, IsBareScene, IsOnlyList}
 use Rattle.ignore.specs.ItsList.{ForItsList}
 use Rattle.ignore.specs.declared.options.WalkOptions.{WalkOptions}
 
@@ -36,10 +34,6 @@ most_steps = 1000000000
 abbrev pub HasRoots : List Path → WalkOptions → WalkOptions → Type 0
 HasRoots given old b = (roots : List Path) × AllZip IsTrimmed given roots × (b ≡ with_limit (with_roots old roots) most_steps)
 
--- a scene of a walk by these settings alone: each entry passes, and texts compare as such
-abbrev pub IsPlain : WalkOptions → Tree → Outside → Scene → Type 0
-IsPlain b tree o g = IsSceneOf no_closures tt b Listed tree o g
-
 -- these are a beginning of some items, and then the error of the limit
 pub record IsCut (all items : List Item) : Type 0 where
   pub front : List Item
@@ -52,7 +46,7 @@ pub record IsCut (all items : List Item) : Type 0 where
 abbrev pub AreCut : {F : Type 0} → Files F → F → Env → WalkOptions → List Item → Type 0
 AreCut files f env b all =
     ((front : List Item) × (all ≡ front ++ Err (io StepLimit) ∷ []))
-    × ((tree : Tree) → IsHonest files f tree → ForItsList (IsPlain b tree) env b tree (λ g items n. (b.limit < n) × IsCut all items))
+    × ((tree : Tree) → IsHonest files f tree → ForItsList (IsBareScene b tree) env b tree (λ g items n. (b.limit < n) × IsCut all items))
 
 -- these items are all of a walk by these settings, without closures: the headline is true of them,
 -- and no others are such a list; or they were cut by the limit
@@ -70,7 +64,7 @@ ComesNext limit item rest n = ((others : List Item) × (rest ≡ item ∷ others
 abbrev pub AreBegun : {F : Type 0} → Files F → F → Env → WalkOptions → List Item → Option Item → Type 0
 AreBegun files f env b all next =
     (tree : Tree) → IsHonest files f tree
-    → ForItsList (IsPlain b tree) env b tree
+    → ForItsList (IsBareScene b tree) env b tree
     (λ g items n. (rest : List Item) × (items ≡ all ++ rest) × IfSome next (λ item. ComesNext b.limit item rest n))
 
 -- these items are all of the walk of the given roots by the settings at first, with the names of a

@@ -26,13 +26,12 @@ ghost use Rattle.ignore_walk.specs.Visits.{IsYielded};
 ghost use Rattle.ignore_walk.specs.Walked.{WalkedOne};
 ghost use Rattle.ignore_walk.specs.Whole.{Whole, root_entry};
 ghost use Rattle.ignore_walk.specs.declared.callbacks.Order.{Order};
-ghost use Rattle.ignore_walk.specs.declared.callbacks.Order.TheVariants.{Listed};
 ghost use Rattle.ignore_walk.specs.declared.entry.DirEntry.{DirEntry};
 ghost use Rattle.ignore.specs.Agreement.{IsKeptByOne, IsMatcherIn, IsReached, answer_at, matcher_root};
 ghost use Rattle.ignore.specs.Asked.{IsOutside};
-ghost use Rattle.ignore.specs.Closures.{ComparesTexts, IsBare, chosen_order, no_closures, order_of};
+ghost use Rattle.ignore.specs.Closures.{ComparesTexts, IsBare, chosen_order, order_of};
 ghost use Rattle.ignore.specs.Finished.{IsFinished};
-ghost use Rattle.ignore.specs.Headline.{Headline, IsOnlyList, IsSceneOf, IsTheList};
+ghost use Rattle.ignore.specs.Headline.{Headline, IsBareScene, IsOnlyList, IsSceneOf, IsTheList};
 ghost use Rattle.ignore.specs.Matchers.{AreMatchers};
 ghost use Rattle.ignore.specs.Walks.{IsNewWalkBy, IsWalkBy};
 ghost use Rattle.ignore.specs.declared.options.WalkOptions.{WalkOptions};
@@ -175,15 +174,14 @@ pub fn a_scene_with_closures(builder: &WalkBuilder)
     one_load();
 }
 
-/// A walk of a builder without closures goes by its options alone: the builder answers as if nobody
-/// asked it (`answers`), so a scene of the options, in which each entry passes and texts compare as
-/// such, is one of the walk (`scenes`). So what has the headline, or is no other list, in the scenes of
-/// the walk, is so in those of the options, where no builder is named.
+/// A walk of a builder without closures goes by its options alone: each entry passes, and texts
+/// compare as such (`answers`). So each scene in which that is so is one of the walk (`scenes`), and
+/// what is said of the walk's list in all of its scenes may be said without its builder.
 pub fn a_builder_without_closures(builder: &WalkBuilder)
     ensures answers { builder.now.sorter ≡ None → builder.now.filter ≡ None
         → IsBare ⟦<Owner<'static> as Callbacks>⟧ (record { builder = Some builder.entry }) }
     ensures scenes { (tree : Tree) (outside : Outside) (g : Scene) → builder.now.sorter ≡ None → builder.now.filter ≡ None
-        → IsSceneOf no_closures tt builder.now.options Listed tree outside g
+        → IsBareScene builder.now.options tree outside g
         → IsSceneOf ⟦<Owner<'static> as Callbacks>⟧ (record { builder = Some builder.entry }) builder.now.options
         (order_of (λ s. s.order) builder.now.sorter) tree outside g }
 {}
@@ -228,7 +226,7 @@ pub fn the_one_list<F: Files, S: Callbacks>()
 }
 
 /// The headline over a tree in memory, with no premise on the walk left: a finished walk has
-/// yielded the one list of the definition, where the builder has no order and no filter (`plain`);
+/// yielded the one list of the definition, where the builder has no comparison and no filter (`plain`);
 /// and with closures wherever there is a scene of them, as `a_scene_with_closures` says (`closures`).
 pub fn a_tree_in_memory(builder: &WalkBuilder, tree: &MemoryTree, env: &Env)
     ensures plain { (o : Outside) (all : List Item) → IsOutside (tree_of tree.now) env.now builder.now.options o
