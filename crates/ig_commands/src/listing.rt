@@ -21,8 +21,8 @@ use crate::names::{Unnamed, count_name, end_names, leave_names};
 use crate::reports::{name_depth, place_at, report_all, report_fault, report_rules};
 use crate::stop::Stop;
 use crate::writing::{is_listed, refuse_or_end, write_path};
-use commands::{Output, World};
 use commands::internal::prepare_list;
+use commands::{Output, World};
 use ig_options::Options;
 use ignore::walk_laws::{
     a_builder_without_closures, a_finished_walk_has_no_other_list, a_finished_walk_is_the_headline,

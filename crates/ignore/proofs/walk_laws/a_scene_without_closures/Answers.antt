@@ -1,4 +1,4 @@
-use Rattle.std.proofs.Common.{true, None, refl}
+use Rattle.std.proofs.Common.{true, refl}
 use Rattle.std.proofs.lemmas.Cmp.{nat_list_cmp_total}
 use Rattle.std.proofs.lemmas.List.MinMax.{ranks_by}
 use Rattle.std.specs.Cmp.Lexicographic.{slice_cmp}
