@@ -14,9 +14,11 @@ use Rattle.ignore_walk.specs.declared.callbacks.Order.TheVariants.{Listed}
 use Rattle.ignore_walk.specs.declared.entry.DirEntry.{DirEntry}
 use Rattle.ignore_walk.specs.declared.ground.Ground.{Ground}
 use Rattle.ignore_walk.specs.declared.walk.Walk.{Walk}
+use Rattle.ignore.proofs.HeadlineLemmas.{yields_then_inner}
 use Rattle.ignore.specs.Closures.{IsBare, no_closures, options_of, order_of}
 use Rattle.ignore.specs.Walks.{GoesBy}
 use Rattle.ignore.specs.declared.options.WalkOptions.{WalkOptions}
+use Rattle.ignore.specs.declared.walk.Walk.{Walk as Built}
 use Rattle.ig_commands.specs.Walked.{HasYielded}
 
 -- where no comparison is set, none is asked for an order
@@ -102,15 +104,19 @@ module _ {F S : Type 0} (files : Files F) (calls : Callbacks S) where
       ((bare j, next a j (Some (item_of x)) is s, rest.0), rest.1)
 
   -- what a walk of a builder has yielded is what one without closures has
-  pub yielded : (f : F) (owner : S) (env : Env) (b : WalkOptions) (order : Order) (w v : Walk F S) (all : List (Result DirEntry Error))
-      (answer : Option (Result DirEntry Error)) → IsBare calls owner → order ≡ Listed → GoesBy files f owner env b order w → w.left ≡ b.limit
-      → YieldsThen (λ old given new. NextGives files calls old (option_map item_of given) new) w all answer v
+  pub yielded : (f : F) (owner : S) (env : Env) (b : WalkOptions) (order : Order) (w v : Built F S) (all : List (Result DirEntry Error))
+      (answer : Option (Result DirEntry Error)) → IsBare calls owner → order ≡ Listed → GoesBy files f owner env b order w.inner
+      → w.inner.left ≡ b.limit
+      → YieldsThen (λ old given new. NextGives files calls old.inner (option_map item_of given) new.inner) w all answer v
       → HasYielded files f env b (map item_of all) answer
-  yielded f owner env b order w v all answer is plain by limit (t, y, last) =
+  yielded f owner env b order w v all answer is plain by limit yields_then =
       let owns = subst (λ (o : S). IsBare calls o) (sym by.closures) is in
-      let before = yields w t all owns y in
+      let inner : YieldsThen (λ old given new. NextGives files calls old (option_map item_of given) new) w.inner all answer v.inner =
+      yields_then_inner (λ old given new. NextGives files calls old (option_map item_of given) new) (λ (x : Built F S). x.inner) w v all answer
+      yields_then in
+      let before = yields w.inner inner.0 all owns inner.1 in
       record {
-        walk = bare w;
+        walk = bare w.inner;
         is_walk = record {
           goes_by = record {
             over = by.over;
@@ -124,7 +130,7 @@ module _ {F S : Type 0} (files : Files F) (calls : Callbacks S) where
           limit = limit;
         };
         all = all;
-        left = bare v;
-        yields = (bare t, before.0, next t v (option_map item_of answer) before.1 last);
+        left = bare v.inner;
+        yields = (bare inner.0, before.0, next inner.0 v.inner (option_map item_of answer) before.1 inner.2);
         are = refl;
       }

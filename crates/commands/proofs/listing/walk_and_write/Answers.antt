@@ -21,7 +21,7 @@ returns-clause-lists g c =
       h.2,
       b.options,
       subst (λ (o : WalkOptions). HasRoots (map string_bytes c.args.roots.now) (with_order unset ByName) o)
-          (sym c.from_options-builder.ensures.options) c.in-Ok.ensures,
+          (sym c.from_options-builder.ensures.options) c.in-Ok.ensures.value,
       listed g.F.Files _ c.args.world.now.files.now _ c.args.world.now.env.now b.options _
           (λ t o s is. c.a_builder_without_closures.ensures.scenes t o s plain.0 plain.1 is) w.inner (map item_of h.0) k.whole k.limit h.2.enough
           (c.only_the_last_item_ends.ensures w h.0 h.1 k.no_end)
@@ -46,7 +46,7 @@ returns-clause-ended g c =
       inr (
         b.options,
         subst (λ (o : WalkOptions). HasRoots (map string_bytes c.args.roots.now) (with_order unset ByName) o)
-            (sym c.from_options-builder.ensures.options) c.in-Ok.ensures,
+            (sym c.from_options-builder.ensures.options) c.in-Ok.ensures.value,
         begun g.F.Files _ c.args.world.now.files.now _ c.args.world.now.env.now b.options _
             (λ t o s is. c.a_builder_without_closures.ensures.scenes t o s plain.0 plain.1 is) w.inner (map item_of h.0) (item_of h.1) h.4
             k.whole k.limit h.5 (λ s items n rest. c.a_run_begins_the_list.ensures s w h.2 h.0 h.1 items n h.3 rest),

@@ -1,10 +1,10 @@
-use Rattle.std.proofs.Common.{[], None, Some, inl, inr, map, option_map, refl, string_bytes, subst, sym}
+use Rattle.std.proofs.Common.{[], List, None, Some, inl, inr, map, refl, string_bytes, subst, sym}
 use Rattle.std.proofs.lemmas.Result.{err_from_is_err_and}
 use Rattle.std.specs.Io.KnownBytes.{Appends}
-use Rattle.ignore.proofs.HeadlineLemmas.{yields_then_inner}
+use Rattle.std.specs.declared.alloc.Global.{Global}
+use Rattle.std.specs.declared.string.String.{String}
 use Rattle.ignore.specs.declared.options.WalkOptions.{WalkOptions}
 use Rattle.ignore_walk.specs.Entry.{item_of}
-use Rattle.ignore_walk.specs.Nexts.{NextGives}
 use Rattle.commands.proofs.LineLemmas.{appends_nothing, appends_on}
 use Rattle.commands.proofs.WalkLemmas.{begun, listed}
 use Rattle.commands.specs.Walking.{HasRoots}
@@ -33,11 +33,11 @@ returns-clause-lists g c =
         enough = w.enough;
       },
       b.options,
-      subst (λ (o : WalkOptions). HasRoots (map string_bytes c.args.options.now.roots.items) c.args.walk o)
-          (sym c.from_options-builder.ensures.options) c.in-Ok.ensures.added,
-      yielded g.F.Files _ c.args.world.now.files.now _ c.args.world.now.env.now b.options _ steps.inner h.1.0.inner h.0 None
-          (c.a_builder_without_closures.ensures.answers plain.0 plain.1) (unordered _ _ plain.0) k.goes_by k.limit
-          (yields_then_inner (λ old given new. NextGives g.F.Files _ old (option_map item_of given) new) (λ w. w.inner) steps h.1.0 h.0 None h.1.1),
+      subst (λ (rs : List (String Global)). HasRoots (map string_bytes rs) c.args.walk b.options) c.deref.ensures.value
+          (subst (λ (o : WalkOptions). HasRoots (map string_bytes c.deref.result.now) c.args.walk o)
+          (sym c.from_options-builder.ensures.options) c.in-Ok.ensures.added),
+      yielded g.F.Files _ c.args.world.now.files.now _ c.args.world.now.env.now b.options _ steps h.1.0 h.0 None
+          (c.a_builder_without_closures.ensures.answers plain.0 plain.1) (unordered _ _ plain.0) k.goes_by k.limit h.1.1,
       listed g.F.Files _ c.args.world.now.files.now _ c.args.world.now.env.now b.options _
           (λ t o s is. c.a_builder_without_closures.ensures.scenes t o s plain.0 plain.1 is) steps.inner items k.whole k.limit h.2.enough
           (c.only_the_last_item_ends.ensures steps h.0 h.1 k.no_end)
@@ -60,13 +60,13 @@ returns-in_err-walked-clause-ended g c =
       h.4,
       inr (
         b.options,
-        subst (λ (o : WalkOptions). HasRoots (map string_bytes c.args.options.now.roots.items) c.args.walk o)
-            (sym c.from_options-builder.ensures.options) c.in-Ok.ensures.added,
+        subst (λ (rs : List (String Global)). HasRoots (map string_bytes rs) c.args.walk b.options) c.deref.ensures.value
+            (subst (λ (o : WalkOptions). HasRoots (map string_bytes c.deref.result.now) c.args.walk o)
+            (sym c.from_options-builder.ensures.options) c.in-Ok.ensures.added),
         (
           Some h.1,
-          yielded g.F.Files _ c.args.world.now.files.now _ c.args.world.now.env.now b.options _ steps.inner h.2.inner h.0 (Some h.1)
-              (c.a_builder_without_closures.ensures.answers plain.0 plain.1) (unordered _ _ plain.0) k.goes_by k.limit
-              (yields_then_inner (λ old given new. NextGives g.F.Files _ old (option_map item_of given) new) (λ w. w.inner) steps h.2 h.0 (Some h.1) h.3),
+          yielded g.F.Files _ c.args.world.now.files.now _ c.args.world.now.env.now b.options _ steps h.2 h.0 (Some h.1)
+              (c.a_builder_without_closures.ensures.answers plain.0 plain.1) (unordered _ _ plain.0) k.goes_by k.limit h.3,
         ),
         begun g.F.Files _ c.args.world.now.files.now _ c.args.world.now.env.now b.options _
             (λ t o s is. c.a_builder_without_closures.ensures.scenes t o s plain.0 plain.1 is) steps.inner (map item_of h.0) (item_of h.1) None
