@@ -8,13 +8,17 @@ import re
 # A line of a call has at most so many characters, where the sources have it so.
 WIDTH = 118
 # The variables before the arrow with which a clause begins: groups of names, each with its type.
-GROUP = re.compile(r"\((\w+(?: \w+)*) : ((?:[^()]|\((?:[^()]|\([^()]*\))*\))+)\)")
+GROUP = re.compile(r"[({](\w+(?: \w+)*) : ((?:[^(){}]|\((?:[^()]|\([^()]*\))*\))+)[)}]")
 BINDER = re.compile(rf"((?:requires )?(?:\w+ )?\{{ )((?:{GROUP.pattern}\s*)+)→\s*", re.S)
 # What is said of a result that is an `Ok`, or an `Err`.
 OF_RESULT = re.compile(r"If(Ok|Err) result \(λ (\w+)\. ")
 FUNCTION = re.compile(r"(?<!result )\(λ (?:\w+ )*\w+\.\s+")
 # A relation of a trait that allows every answer, unless a type says otherwise.
 FREE = re.compile(r" = \{ (?:λ [_ ]+\. )?⊤ \};$")
+# Where a text may be broken: where the sources break it, and before an arrow that stands in no brackets.
+BREAK = re.compile(r"[()]|\n\s*| (?=→ )")
+# What has a line of its own for each of its parts: names for what follows, or the fields of a record.
+LISTED = re.compile(r"(?: in|[{;])\n")
 
 
 def parted(lines):
@@ -28,18 +32,48 @@ def parted(lines):
 
 
 def laid_out(clause, words):
-    """A clause with the page's own words, and on one line where it fits on one."""
-    clause = FREE.sub(";", clause.replace("    ensures ", "    ", 1))
+    """A clause with the page's own words, on as few lines as it needs."""
+    clause = plain(clause.replace("    ensures ", "    ", 1))
     for name, text in words.items():
         clause = re.sub(r"\s+".join(map(re.escape, text.split())), name, clause)
-    return on_one_line(of_result(clause))
+    return on_few_lines(of_result(clause))
 
 
-def on_one_line(text):
-    """A text on one line, where it fits on one."""
+def plain(text):
+    """A clause, a relation or a definition without what says nothing: the level of a type, and that a
+    relation allows every answer."""
+    return FREE.sub(";", text).replace("Type 0", "Type")
+
+
+def on_few_lines(text):
+    """A text on as few lines as it needs, or as it is where it is a list."""
     indent = text[: len(text) - len(text.lstrip())]
     line = indent + " ".join(text.split())
-    return line if len(line) <= WIDTH else text
+    if len(line) <= WIDTH:
+        return line
+    return text if LISTED.search(text) else filled(parts_of(text.strip()), indent)
+
+
+def parts_of(text):
+    """The parts of a text between the places where it may be broken."""
+    parts, depth, at = [], 0, 0
+    for it in BREAK.finditer(text):
+        depth += {"(": 1, ")": -1}.get(it[0], 0)
+        if it[0].isspace() and ("\n" in it[0] or not depth):
+            parts.append(text[at : it.start()])
+            at = it.end()
+    return [*parts, text[at:]]
+
+
+def filled(parts, indent):
+    """Parts of a text on as few lines as they need, the further ones indented by more."""
+    lines = [f"{indent}{parts[0]}"]
+    for part in parts[1:]:
+        if len(lines[-1]) + 1 + len(part) <= WIDTH:
+            lines[-1] += f" {part}"
+        else:
+            lines.append(f"{indent}    {part}")
+    return "\n".join(lines)
 
 
 def of_result(clause):
@@ -105,5 +139,4 @@ def without_variables(clause, declared, head):
         return clause
     indent = clause[: len(clause) - len(clause.lstrip())]
     binder = "".join(f"({' '.join(name for name, _ in ones)} : {it}) " for it, ones in itertools.groupby(kept, lambda it: it[1]))
-    line = on_one_line(f"{indent}{before}{binder}{'→ ' if kept else ''}{rest}")
-    return line if len(line.split("\n")[0]) <= WIDTH else f"{indent}{before}{binder.rstrip()}\n        → {rest}"
+    return on_few_lines(f"{indent}{before}{binder}{'→ ' if kept else ''}{rest}")

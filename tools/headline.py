@@ -8,9 +8,11 @@ import re
 import sys
 import textwrap
 
+from clauses import on_few_lines, parted, plain
 from definitions import IMPORT, WHOLE, Library, paths_of
 from equations import in_one
 from repo import read
+from rules import in_short
 from sources import calls_of, module_file
 
 # The call whose clauses are the headline, its crate, and the names of these clauses.
@@ -160,14 +162,14 @@ and then several equations, of which the first that fits counts.
 | `(x : A) → B`, `A → B` | for each `x` of `A`, `B` holds; if `A` then `B`; also the functions from `A` to `B` |
 | `(x : A) × B`, `A × B` | there is an `x` of `A` for which `B` holds; `A` and `B`; also the pairs of both |
 | `A ⊎ B`; `¬ A`, `⊥`; `Unit {0}` | `A` or `B`; not `A`, false; true |
-| `Type 0` | what may hold or not, or a type: `A → Type 0` is a property of an `A` |
+| `Type` | what may hold or not, or a type: `A → Type` is a property of an `A` |
 | `a ≡ b`, `a ≢ b` | they are equal, or not; `==`, `&&`, `not` and names with small letters are tests, whose value is a `Bool` |
 | `λ x. e` | the function that takes `x` to `e` |
 | `{x : A}` | an argument that the others determine: it isn't written, or in braces, as in `Unit {0}` |
 | `p.0`, `p.1`; `r.field` | the first and the second of a pair; a field of a record |
 | `record { field = e; .. }`, `record r { field = e }` | a record of these fields; `r` with another value in one field |
-| `data T`, and its lines `name : .. → T ..` | the least relation, or type, with these rules |
-| `record R .. : Type 0 where`, and its lines | a type of records; or a property, which holds where all fields do |
+| `data T .. where`, and its lines `name : .. → T ..` | the least relation, or type, with these rules; `for each` names their variables |
+| `record R .. where`, and its lines | a type of records; or a property, which holds where all fields do; `a b : A` are two fields |
 | `[]`, `x ∷ xs`, `xs ++ ys`; `ℕ`, `suc n` | the empty list, a list by its first and the others, one list after another; the numbers from 0, `n + 1` |
 | `None`, `Some a`; `Ok a`, `Err e` | no value or a value, of type `Option A`; a value or an error, of type `Result A E` |
 | `thing.Fault f`, `std.None`, `below.scene` | names of another type or file, before the dot, where one of the same name is in use, as `None` is a verdict too; `Refused f`: a `Refusal`'s `Fault f`; `Nothing`, `Only a`: `None`, `Some a` |
@@ -178,8 +180,9 @@ and then several equations, of which the first that fits counts.
 | `and_then f r`, `or_failed path depth f r` | the error of `r`, or else `f` of its value: `r` comes first |
 | `_`; `mutual` | whatever it is; the definitions below name each other |
 
-The words `abbrev`, `unfoldable` and `pub`, which don't bear on the meaning, are left out. Words
-that no definition here defines are of the standard library, of lists, numbers and texts.
+The words `abbrev`, `unfoldable` and `pub`, the `0` of `Type 0` and the type of a record, which don't
+bear on the meaning, are left out; in the sources each rule names its own variables. Words that no
+definition here defines are of the standard library, of lists, numbers and texts.
 `IsPermutation xs ys`: the same things in some order. `IsSortedBy lt ys`: nothing stands before what
 `lt` puts before it. `IsStableBy lt xs ys`: things that tie keep their order.
 `IsStrictWeakOrder lt`: irreflexive and transitive, and ties are transitive. A value of the code
@@ -360,8 +363,8 @@ def name_of(place):
 
 def shown(library, one):
     """A definition with the comment above it."""
-    text = re.sub(r"^(\s*)(?:abbrev |unfoldable )?(?:pub )?", r"\1", one.text, flags=re.M)
-    return [*(f"-- {it}" for it in textwrap.wrap(said_of(library, one), 97)), *in_one(text).split("\n"), ""]
+    text = re.sub(r"^(\s*)(?:abbrev |unfoldable )?(?:pub )?", r"\1", plain(one.text), flags=re.M)
+    return [*(f"-- {it}" for it in textwrap.wrap(said_of(library, one), 97)), *in_short(in_one(text)).split("\n"), ""]
 
 
 def said_of(library, one):
@@ -414,8 +417,8 @@ def declared(crate, modules, name):
     end = next(it for it in range(at, len(lines)) if lines[it].endswith(("}", ";")) and lines[it][:1] not in ("", " "))
     body = [it for it in lines[at : end + 1] if not it.strip().startswith(("//", "#["))]
     if body[0].startswith("pub trait"):
-        ghosts = [re.sub(r" = \{.*\};$", ";", it) for it in body if re.match(r"    ghost \w+:", it)]
-        return [body[0], *ghosts, "}"]
+        ghosts = [plain(it) for it in body if re.match(r"    ghost \w+:", it)]
+        return [body[0].removeprefix("pub "), *ghosts, "}"]
     body = [it for it in body if not it.strip().startswith("ghost ")]
     return wrapped(re.sub(r"\bpub(?:\(crate\))? |,(?= })", "", " ".join(it.strip() for it in body)), "    ")
 
@@ -454,7 +457,7 @@ def headline(crates):
         f" {walk} of these lines are of the walk itself. {ARGUMENTS}"
     )
     words = [f"// {name}: {text}" for name, text in SHORT.items()]
-    short = [shortened(it, SHORT) for it in clauses]
+    short = [on_few_lines(shortened(it, SHORT)) for it in parted(clauses)]
     lines = [HEAD, "## The clauses", "", "```rust", *words, call.head, *short, "```", "", *wrapped(rests), "", *wrapped(MORE), "", NOTATION]
     for layer in sorted(LAYERS, key=lambda it: it.title):
         here = [it for it in order if of[it] is layer]
