@@ -19,7 +19,6 @@ use Rattle.ignore_walk.specs.declared.callbacks.Callbacks.{Ghosts as Callbacks}
 use Rattle.ignore_walk.specs.declared.callbacks.Order.{Order}
 use Rattle.ignore_walk.specs.declared.callbacks.Order.TheVariants.{Listed}
 use Rattle.ignore_walk.specs.declared.walk.Walk.{Walk}
-use Rattle.ignore.proofs.HeadlineLemmas.{scene_suits}
 use Rattle.ignore.specs.Closures.{no_closures, options_of}
 use Rattle.ignore.specs.Finished.{IsEnd, IsFinished}
 use Rattle.ignore.specs.Headline.{Headline, IsBareScene, IsOnlyList, IsSceneOf}
@@ -93,7 +92,17 @@ module _ {F S : Type 0} (files : Files F) (calls : Callbacks S) (f : F) (owner :
     (bare : (t : Tree) (o : Outside) (g : Scene) → IsBareScene b t o g → IsSceneOf calls owner b order t o g) where
   suits : (t : Tree) (o : Outside) (g : Scene) → IsHonest files f t → IsBareScene b t o g
       → Suits files calls f owner b.settings o (options_of b order) g
-  suits t o g honest plain = scene_suits files calls f owner b order t o g honest (bare t o g plain)
+  suits t o g honest plain =
+      let s = bare t o g plain in
+      record {
+        honest = subst (λ (u : Tree). IsHonest files f u) (sym s.tree) honest;
+        loads = s.loads;
+        settings = s.settings;
+        outside = s.outside;
+        device = s.device;
+        filter = s.filter;
+        order = s.sorted;
+      }
 
   whole_list : (all : List Item) → Headline files calls f owner env b order all → Headline files no_closures f tt env b Listed all
   whole_list all h = λ tree honest outside read g plain. h tree honest outside read g (bare tree outside g plain)

@@ -14,7 +14,6 @@ use Rattle.ignore_walk.specs.declared.callbacks.Order.TheVariants.{Listed}
 use Rattle.ignore_walk.specs.declared.entry.DirEntry.{DirEntry}
 use Rattle.ignore_walk.specs.declared.ground.Ground.{Ground}
 use Rattle.ignore_walk.specs.declared.walk.Walk.{Walk}
-use Rattle.ignore.proofs.HeadlineLemmas.{yields_then_inner}
 use Rattle.ignore.specs.Closures.{IsBare, no_closures, options_of, order_of}
 use Rattle.ignore.specs.Walks.{GoesBy}
 use Rattle.ignore.specs.declared.options.WalkOptions.{WalkOptions}
@@ -103,18 +102,22 @@ module _ {F S : Type 0} (files : Files F) (calls : Callbacks S) where
       let rest = yields j t xs (still a j (Some (item_of x)) is s) y in
       ((bare j, next a j (Some (item_of x)) is s, rest.0), rest.1)
 
+  -- calls of a walk of a builder are calls of what it keeps
+  built : (a t : Built F S) (xs : List (Result DirEntry Error))
+      → Yields (λ old given new. NextGives files calls old.inner (option_map item_of given) new.inner) a xs t
+      → Yields (λ old given new. NextGives files calls old (option_map item_of given) new) a.inner xs t.inner
+  built a t [] y = ap (λ (x : Built F S). x.inner) y
+  built a t (x ∷ xs) (j, s, y) = (j.inner, s, built j t xs y)
+
   -- what a walk of a builder has yielded is what one without closures has
   pub yielded : (f : F) (owner : S) (env : Env) (b : WalkOptions) (order : Order) (w v : Built F S) (all : List (Result DirEntry Error))
       (answer : Option (Result DirEntry Error)) → IsBare calls owner → order ≡ Listed → GoesBy files f owner env b order w.inner
       → w.inner.left ≡ b.limit
       → YieldsThen (λ old given new. NextGives files calls old.inner (option_map item_of given) new.inner) w all answer v
       → HasYielded files f env b (map item_of all) answer
-  yielded f owner env b order w v all answer is plain by limit yields_then =
+  yielded f owner env b order w v all answer is plain by limit (t, y, last) =
       let owns = subst (λ (o : S). IsBare calls o) (sym by.closures) is in
-      let inner : YieldsThen (λ old given new. NextGives files calls old (option_map item_of given) new) w.inner all answer v.inner =
-      yields_then_inner (λ old given new. NextGives files calls old (option_map item_of given) new) (λ (x : Built F S). x.inner) w v all answer
-      yields_then in
-      let before = yields w.inner inner.0 all owns inner.1 in
+      let before = yields w.inner t.inner all owns (built w t all y) in
       record {
         walk = bare w.inner;
         is_walk = record {
@@ -131,6 +134,6 @@ module _ {F S : Type 0} (files : Files F) (calls : Callbacks S) where
         };
         all = all;
         left = bare v.inner;
-        yields = (bare inner.0, before.0, next inner.0 v.inner (option_map item_of answer) before.1 inner.2);
+        yields = (bare t.inner, before.0, next t.inner v.inner (option_map item_of answer) before.1 last);
         are = refl;
       }
