@@ -32,18 +32,20 @@ returns-clause-lists g c =
         listed = w.listed;
         enough = w.enough;
       },
-      b.options,
-      subst (λ (rs : List (String Global)). HasRoots (map string_bytes rs) c.args.walk b.options) c.deref.ensures.value
-          (subst (λ (o : WalkOptions). HasRoots (map string_bytes c.deref.result.now) c.args.walk o)
-          (sym c.from_options-builder.ensures.options) c.in-Ok.ensures.added),
-      yielded g.F.Files _ c.args.world.now.files.now _ c.args.world.now.env.now b.options _ steps h.1.0 h.0 None
-          (c.a_builder_without_closures.ensures.answers plain.0 plain.1) (unordered _ _ plain.0) k.goes_by k.limit h.1.1,
-      listed g.F.Files _ c.args.world.now.files.now _ c.args.world.now.env.now b.options _
-          (λ t o s is. c.a_builder_without_closures.ensures.scenes t o s plain.0 plain.1 is) steps.inner items k.whole k.limit h.2.enough
-          (c.only_the_last_item_ends.ensures steps h.0 h.1 k.no_end)
-          (λ done. c.a_finished_walk_is_the_headline.ensures _ _ _ _ _ steps h.0 k.starts k.limit h.1 done)
-          (λ done. c.a_finished_walk_has_no_other_list.ensures _ _ _ _ _ steps h.0 k.whole k.limit h.1 done)
-          (λ s xs n rest. c.a_run_yields_the_list.ensures s steps h.0 xs n h.1 rest),
+      (
+        b.options,
+        subst (λ (rs : List (String Global)). HasRoots (map string_bytes rs) c.args.walk b.options) c.deref.ensures.value
+            (subst (λ (o : WalkOptions). HasRoots (map string_bytes c.deref.result.now) c.args.walk o)
+            (sym c.from_options-builder.ensures.options) c.in-Ok.ensures.added),
+        yielded g.F.Files _ c.args.world.now.files.now _ c.args.world.now.env.now b.options _ steps h.1.0 h.0 None
+            (c.a_builder_without_closures.ensures.answers plain.0 plain.1) (unordered _ _ plain.0) k.goes_by k.limit h.1.1,
+        listed g.F.Files _ c.args.world.now.files.now _ c.args.world.now.env.now b.options _
+            (λ t o s is. c.a_builder_without_closures.ensures.scenes t o s plain.0 plain.1 is) steps.inner items k.whole k.limit h.2.enough
+            (c.only_the_last_item_ends.ensures steps h.0 h.1 k.no_end)
+            (λ done. c.a_finished_walk_is_the_headline.ensures _ _ _ _ _ steps h.0 k.starts k.limit h.1 done)
+            (λ done. c.a_finished_walk_has_no_other_list.ensures _ _ _ _ _ steps h.0 k.whole k.limit h.1 done)
+            (λ s xs n rest. c.a_run_yields_the_list.ensures s steps h.0 xs n h.1 rest),
+      ),
     )
 
 -- what was written before the item that ended it is of a beginning of the walk's items
