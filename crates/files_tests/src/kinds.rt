@@ -20,6 +20,31 @@ fn short_name(alloc: Global, number: usize) -> Result<String, AllocError> {
     format!(in alloc; "{number}")
 }
 
+/// A character with the number by which the system knows a kind: a folder, a file, a link.
+fn kind_letter(number: usize) -> char {
+    match number % 3 {
+        0 => '\u{4}',
+        1 => '\u{8}',
+        _ => '\n',
+    }
+}
+
+/// A character at the end of a name, whose byte may be taken for the length of a record.
+fn length_letter(number: usize) -> char {
+    match number % 4 {
+        0 => ' ',
+        1 => '(',
+        2 => '0',
+        _ => '8',
+    }
+}
+
+/// A name whose bytes may be taken for records of the system.
+fn odd_name(alloc: Global, number: usize) -> Result<String, AllocError> {
+    let (first, last) = (kind_letter(number / 3), length_letter(number / 9));
+    format!(in alloc; "{first}{number}{first}{last}")
+}
+
 /// Makes a file, a folder or a link, which leads nowhere, by the number.
 fn make(rt: &HostRuntime, number: usize, name: &str) -> io::Result<()> {
     match number % 3 {
@@ -38,6 +63,12 @@ fn make_long(rt: &HostRuntime, len: usize) -> Result<(), Fail> {
 /// Makes a thing with the number as its name.
 fn make_short(rt: &HostRuntime, number: usize) -> Result<(), Fail> {
     let name = short_name(rt.alloc(), number)?;
+    Ok(make(rt, number, &name)?)
+}
+
+/// Makes a thing with a name whose bytes may be taken for records.
+fn make_odd(rt: &HostRuntime, number: usize) -> Result<(), Fail> {
+    let name = odd_name(rt.alloc(), number)?;
     Ok(make(rt, number, &name)?)
 }
 
@@ -111,6 +142,14 @@ fn kinds_in_a_folder_that_one_read_holds_are_those_that_are_asked(
 ) -> Result<(), Fail> {
     for number in [9, 30, 60, 120] {
         assert_eq!(rt; counts_of(&rt, number, make_short)?, (number, number));
+    }
+    Ok(())
+}
+
+#[test]
+fn kinds_under_names_like_records_are_those_that_are_asked(rt: HostRuntime) -> Result<(), Fail> {
+    for number in [20, 100, 400, 2_000] {
+        assert_eq!(rt; counts_of(&rt, number, make_odd)?, (number, number));
     }
     Ok(())
 }

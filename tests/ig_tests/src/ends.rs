@@ -32,6 +32,28 @@ impl Write for Failing {
     }
 }
 
+/// A writer of which every other write is interrupted.
+#[derive(Drop)]
+struct Interrupted {
+    kept: Vec<u8>,
+    is_next: bool,
+}
+
+impl Write for Interrupted {
+    fn write(&mut self, bytes: &[u8]) -> io::Result<usize> {
+        self.is_next = !self.is_next;
+        if self.is_next {
+            return Err(io::Error::from(io::ErrorKind::Interrupted));
+        }
+        self.kept.extend_from_slice(bytes)?;
+        Ok(bytes.len())
+    }
+
+    fn flush(&mut self) -> io::Result<()> {
+        Ok(())
+    }
+}
+
 /// A reader that fails at once.
 #[derive(Drop)]
 struct Unreadable;
@@ -129,6 +151,38 @@ fn a_closed_pipe_is_no_failure(rt: HostRuntime) -> Result<(), Fail> {
             )?;
             assert_eq!(rt; (status, reported.as_slice()), (Some(0), b"".as_slice()));
         }
+    }
+    Ok(())
+}
+
+/// The status and the output of a run into a writer that is interrupted, or into one that isn't.
+fn into_writer(
+    alloc: Global,
+    words: &[&str],
+    is_interrupted: bool,
+) -> (Option<u8>, Vec<u8>) {
+    let mut err: Vec<u8> = Vec::new(alloc);
+    if !is_interrupted {
+        let mut out: Vec<u8> = Vec::new(alloc);
+        let ended = ran(alloc, words, io::empty(), &mut out, &mut err);
+        return (ended.ok().map(|ran| ran.status), out);
+    }
+    let mut out = Interrupted {
+        kept: Vec::new(alloc),
+        is_next: false,
+    };
+    let ended = ran(alloc, words, io::empty(), &mut out, &mut err);
+    (ended.ok().map(|ran| ran.status), out.kept)
+}
+
+/// A write that is interrupted is tried again, and nothing is lost or written twice.
+#[test]
+fn an_interrupted_write_is_tried_again(rt: HostRuntime) -> Result<(), Fail> {
+    for words in RUNS {
+        let (status, output) = into_writer(rt.alloc(), words, true);
+        let (as_usual, expected) = into_writer(rt.alloc(), words, false);
+        assert_eq!(rt; (status, output.as_slice()), (as_usual, expected.as_slice()));
+        assert!(rt; status.is_some());
     }
     Ok(())
 }
