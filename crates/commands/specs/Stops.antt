@@ -5,8 +5,7 @@ use Rattle.std.specs.List.{flat_map}
 use Rattle.std.specs.Str.Lines.{lines}
 use Rattle.std.specs.declared.io.ErrorKind.{ErrorKind}
 use Rattle.ignore_base.specs.Text.{Bytes, Path}
-use Rattle.ignore_base.specs.Problem.{Problem, several, at_line, at_path, at_depth, loop, io, glob, unrecognized, invalid_definition}
-use Rattle.ignore_base.specs.Problem.{memory}
+use Rattle.ignore_base.specs.Problem.{Problem, glob}
 use Rattle.ignore_rules.specs.Rules.{Building, LineOptions, Refuses}
 use Rattle.commands.specs.declared.stop.Stop.{Stop}
 use Rattle.commands.specs.declared.stop.Stop.TheVariants.{Usage, Memory, Write, Silence}

@@ -191,7 +191,11 @@ fn report_problem<E: Write>(error: &Error, err: &mut E) -> Result<bool, Stop>
 }
 
 /// Writes the path of an entry, and reports its problem, if it has one. It returns whether it has.
-fn write_entry<W: Output, E: Write>(entry: &DirEntry, out: &mut W, err: &mut E) -> Result<bool, Stop>
+fn write_entry<W: Output, E: Write>(
+    entry: &DirEntry,
+    out: &mut W,
+    err: &mut E,
+) -> Result<bool, Stop>
     ensures lists { IfOk result (λ any. Appends (W.contents out.old) (W.contents out.new) (lines_of (item_of (Ok entry.now)))
         × Appends (E.contents err.old) (E.contents err.new) (reports_of (item_of (Ok entry.now)))
         × (any ≡ is_reported (item_of (Ok entry.now)))) }
