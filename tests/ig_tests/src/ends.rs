@@ -155,34 +155,21 @@ fn a_closed_pipe_is_no_failure(rt: HostRuntime) -> Result<(), Fail> {
     Ok(())
 }
 
-/// The status and the output of a run into a writer that is interrupted, or into one that isn't.
-fn into_writer(
-    alloc: Global,
-    words: &[&str],
-    is_interrupted: bool,
-) -> (Option<u8>, Vec<u8>) {
-    let mut err: Vec<u8> = Vec::new(alloc);
-    if !is_interrupted {
-        let mut out: Vec<u8> = Vec::new(alloc);
-        let ended = ran(alloc, words, io::empty(), &mut out, &mut err);
-        return (ended.ok().map(|ran| ran.status), out);
-    }
-    let mut out = Interrupted {
-        kept: Vec::new(alloc),
-        is_next: false,
-    };
-    let ended = ran(alloc, words, io::empty(), &mut out, &mut err);
-    (ended.ok().map(|ran| ran.status), out.kept)
-}
-
 /// A write that is interrupted is tried again, and nothing is lost or written twice.
 #[test]
 fn an_interrupted_write_is_tried_again(rt: HostRuntime) -> Result<(), Fail> {
     for words in RUNS {
-        let (status, output) = into_writer(rt.alloc(), words, true);
-        let (as_usual, expected) = into_writer(rt.alloc(), words, false);
-        assert_eq!(rt; (status, output.as_slice()), (as_usual, expected.as_slice()));
-        assert!(rt; status.is_some());
+        let mut expected: Vec<u8> = Vec::new(rt.alloc());
+        let mut out = Interrupted {
+            kept: Vec::new(rt.alloc()),
+            is_next: false,
+        };
+        let mut err: Vec<u8> = Vec::new(rt.alloc());
+        let as_usual = ran(rt.alloc(), words, io::empty(), &mut expected, &mut err);
+        let ended = ran(rt.alloc(), words, io::empty(), &mut out, &mut err);
+        assert!(rt; ended.is_ok());
+        assert_eq!(rt; ended.ok().map(|ran| ran.status), as_usual.ok().map(|ran| ran.status));
+        assert_eq!(rt; out.kept.as_slice(), expected.as_slice());
     }
     Ok(())
 }
