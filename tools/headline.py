@@ -76,8 +76,9 @@ Then these items are exactly the following list (`Headline`), and no other list 
    it isn't on another device than its root, if the walk stays on that one (`fate`). After its own
    item, if it is one, comes the fault of its listing, where this fails (`unlisted`), and else what
    is listed, each thing with all below it before the next one (`WalkedEach`). The order is that of
-   the listing; or, where one is chosen, faults come first, then entries as the comparison puts
-   them, and things that tie stay as they were listed (`IsArranged`).
+   the listing; or, where one is chosen, by names or by paths (`chosen_order`), faults come first,
+   then entries in the chosen order, that of texts or of a comparison, and things that tie stay as
+   they were listed (`IsArranged`).
 4. A problem stands in the place of an entry where `stat` has a fault, for a root or what it leads
    to (`root_entry`), or for what a followed link leads to (`found`); where a followed link leads
    back to a directory that it is in, a loop (`without_loop`); where an identity isn't known that
@@ -121,11 +122,12 @@ of a disk that changes during the walk ([OPEN](OPEN.md)), or no such function or
 each entry is at a root or below one (a further clause, `below`). Where there are these, there is a
 scene (the laws `a_scene_without_closures` and `a_scene_with_closures`); with it the law
 `the_one_list` has all that is said of an `Ok` as one record (`IsTheList`, of
-`crates/ignore/specs/Headline.antt`). In an endless tree, where entered directories go down forever,
-there is no list. So there, if there is a scene, `collect_walk` returns no `Ok`; and `IsAboveLimit`
-says nothing of an `Err`, but where that is the limit, the walk took as many steps (the clause
-`limited`). Nor is it said that memory suffices, what was found before an `Err`, or when and how
-often the filter is asked.
+`crates/ignore/specs/Headline.antt`). Of a builder without closures all of it may be said by its
+options alone, as `igwalk list` and `ig ls` do (the law `a_builder_without_closures`). In an endless
+tree, where entered directories go down forever, there is no list. So there, if there is a scene,
+`collect_walk` returns no `Ok`; and `IsAboveLimit` says nothing of an `Err`, but where that is the
+limit, the walk took as many steps (the clause `limited`). Nor is it said that memory suffices, what
+was found before an `Err`, or when and how often the filter is asked.
 
 ## An example
 
@@ -207,7 +209,7 @@ PARTS = [
     ),
     (
         "The headline, and which scenes are of a walk.",
-        "Headline IsListIn HasYielded IsSceneOf IsOrderBy order_by order_of",
+        "Headline IsListIn HasYielded IsSceneOf IsOrderBy order_by chosen_order order_of",
     ),
     (
         "What the roots give.",
@@ -281,8 +283,8 @@ LAYERS = [
 ARGUMENTS = (
     "The arguments of `Headline`, `IsOnlyList` and `IsAboveLimit` are: the relations by which contracts see the calls of the files, and"
     " those of the owner of the filter and the comparison, `CALLS`; the files; this owner, `OWNER`, the one with this builder; the"
-    " environment; the builder's options; and `ORDER`, the order of its comparison, if it has one. By `CALLS` ([STATEMENTS](STATEMENTS.md))"
-    " an `Owner` answers as the closures of its builder do; without a filter all pass, without a comparison all tie. The `Item` of the"
+    " environment; the builder's options; and `ORDER`, the order that its comparison is asked for, if it has one (else that of the options counts, `chosen_order`). By `CALLS` ([STATEMENTS](STATEMENTS.md))"
+    " an `Owner` answers as the closures of its builder do; without a filter all pass, without a comparison texts compare as such, byte by byte. The `Item` of the"
     " head is a `Result<DirEntry, Error>`, of which `item_of` makes the plain one."
 )
 # Words of the pages' own, in the place of arguments that are long, and written often.

@@ -16,9 +16,9 @@ CALLING = "docs/CALLING.md"
 # The programs that have its pieces, and the one of which it has a piece of each file, or a link to it.
 PROGRAMS = "crates/example", "examples/calling"
 SHOWN = "examples/calling"
-# Types that a caller meets in contracts alone (`Callbacks`, `Order`, `Owner`, `Stat`), as the closures of
+# Types that a caller meets in contracts alone (`Callbacks`, `Owner`, `Stat`), as the closures of
 # a builder's setters, or inside of what waits for a host's answer.
-UNNAMED = "Callbacks", "Compare", "Keep", "Order", "Owner", "files::Stat", "guide::Call", "guide::Told"
+UNNAMED = "Callbacks", "Compare", "Keep", "Owner", "files::Stat", "guide::Call", "guide::Told"
 
 
 def pages():

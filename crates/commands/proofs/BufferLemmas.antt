@@ -56,9 +56,9 @@ wrote_over out over Memory same h = same _ h
 wrote_over out over Write same h = h
 wrote_over out over Silence same h = same _ h
 
-pub ends_over : (question : Question) (out over err : List ℕ → Type 0) → ((bs : List ℕ) → out bs → over bs)
-    → EndsReported question out err → EndsReported question over err
-ends_over question out over err same h = (h.0, h.1, wrote_over out over h.0 same h.2, h.3)
+pub ends_over : (said : Stop → Type 0) (question : Question) (out over err : List ℕ → Type 0) → ((bs : List ℕ) → out bs → over bs)
+    → EndsReported said question out err → EndsReported said question over err
+ends_over said question out over err same h = (h.0, h.1, wrote_over out over h.0 same h.2, h.3, h.4)
 
 ended_over : {T : Type 0} (line report : T → List ℕ) (all : List T) (next : Option T) (out over err : List ℕ → Type 0) (stop : Stop)
     → ((bs : List ℕ) → out bs → over bs) → EndsAfter line report all next out err stop → EndsAfter line report all next over err stop
@@ -69,7 +69,8 @@ ended_over line report all (Some x) out over err Write same h = ((h.0.0, h.0.1, 
 ended_over line report all Nothing out over err Silence same h = absurd h
 ended_over line report all (Some x) out over err Silence same h = (same _ h.0, h.1)
 
-pub ends_after_over : {T : Type 0} (line report : T → List ℕ) (all : List T) (next : Option T) (out over err : List ℕ → Type 0)
-    → ((bs : List ℕ) → out bs → over bs) → EndsReportedAfter line report all next out err
-    → EndsReportedAfter line report all next over err
-ends_after_over line report all next out over err same h = (h.0, h.1, ended_over line report all next out over (λ bs. err (bs ++ reason h.0)) h.0 same h.2)
+pub ends_after_over : (said : Stop → Type 0) {T : Type 0} (line report : T → List ℕ) (all : List T) (next : Option T) (out over err : List ℕ → Type 0)
+    → ((bs : List ℕ) → out bs → over bs) → EndsReportedAfter said line report all next out err
+    → EndsReportedAfter said line report all next over err
+ends_after_over said line report all next out over err same h =
+    (h.0, h.1, ended_over line report all next out over (λ bs. err (bs ++ reason h.0)) h.0 same h.2, h.3)

@@ -59,13 +59,13 @@ written_is_begun line report all (Some x) out err Silence h = (
 )
 
 -- where the reason is reported, it comes after the reports before it, which are all the others
-pub reason_is_last : {T : Type 0} (line report : T → List ℕ) (all : List T) (next : Option T) (out err : List ℕ → Type 0)
-    → EndsReportedAfter line report all next out err → (stop : Stop) × err (flat_map report all ++ reason stop)
-reason_is_last line report all next out err (Usage, can, h) = absurd h
-reason_is_last line report all next out err (Memory, can, h) = (Memory, h.1)
-reason_is_last line report all None out err (Write, can, h) = absurd h
-reason_is_last line report all (Some x) out err (Write, can, h) = (Write, h.1)
-reason_is_last line report all next out err (Silence, can, h) = absurd (can refl)
+pub reason_is_last : (said : Stop → Type 0) {T : Type 0} (line report : T → List ℕ) (all : List T) (next : Option T) (out err : List ℕ → Type 0)
+    → EndsReportedAfter said line report all next out err → (stop : Stop) × err (flat_map report all ++ reason stop)
+reason_is_last said line report all next out err (Usage, can, h, why) = absurd h
+reason_is_last said line report all next out err (Memory, can, h, why) = (Memory, h.1)
+reason_is_last said line report all None out err (Write, can, h, why) = absurd h
+reason_is_last said line report all (Some x) out err (Write, can, h, why) = (Write, h.1)
+reason_is_last said line report all next out err (Silence, can, h, why) = absurd (can refl)
 
 -- where it can't be reported, a beginning of it comes there, and not all of it; or a report before it
 -- couldn't be written

@@ -27,17 +27,17 @@ pub question_none : (question : Question) (err : List ℕ → Type 0) → err []
 question_none question err h = ([], lines question.rules, refl, (begun question.root, [], no_line, h))
 
 -- a whole run of a question has reported its rejected lines
-pub question_whole : (question : Question) (status : ℕ) (out before after : List ℕ → Type 0)
-    → Prints question status out before ⊎ ((status ≡ 2) × EndsReported question out before) → status < 2
+pub question_whole : (said : Stop → Type 0) (question : Question) (status : ℕ) (out before after : List ℕ → Type 0)
+    → Prints question status out before ⊎ ((status ≡ 2) × EndsReported said question out before) → status < 2
     → ((bs : List ℕ) → before bs → after bs) → ReportedOf question after Write
-question_whole question status out before after (inl h) low more = (h.builder, h.adds.0, h.adds.1, more h.adds.0 h.adds.2)
-question_whole question status out before after (inr h) low more = absurd (omega (arith, h.0, low))
+question_whole said question status out before after (inl h) low more = (h.builder, h.adds.0, h.adds.1, more h.adds.0 h.adds.2)
+question_whole said question status out before after (inr h) low more = absurd (omega (arith, h.0, low))
 
 -- one with status 2 has reported why it ended
-pub question_ended : (question : Question) (status : ℕ) (out err : List ℕ → Type 0)
-    → Prints question status out err ⊎ ((status ≡ 2) × EndsReported question out err) → 2 ≤ status → GoneReported question err
-question_ended question status out err (inl h) high = absurd (omega (arith, at_most_one h.refused status h.ends, high))
-question_ended question status out err (inr h) high = (h.1.0, h.1.1, h.1.3)
+pub question_ended : (said : Stop → Type 0) (question : Question) (status : ℕ) (out err : List ℕ → Type 0)
+    → Prints question status out err ⊎ ((status ≡ 2) × EndsReported said question out err) → 2 ≤ status → GoneReported question err
+question_ended said question status out err (inl h) high = absurd (omega (arith, at_most_one h.refused status h.ends, high))
+question_ended said question status out err (inr h) high = (h.1.0, h.1.1, h.1.3)
 
 -- no whole list has status 2, and no whole check
 pub list_low : (items : List Item) (status : ℕ) (out err : List ℕ → Type 0) → Lists items status out err → 2 ≤ status → ⊥
@@ -57,9 +57,9 @@ after_gone line report all (Some x) out err Write h = h.1
 after_gone line report all None out err Silence h = absurd h
 after_gone line report all (Some x) out err Silence h = h.1
 
-pub after_reported : {T : Type 0} (line report : T → List ℕ) (all : List T) (next : Option T) (out err : List ℕ → Type 0)
-    → EndsReportedAfter line report all next out err → GoneReportedAfter report all next err
-after_reported line report all next out err h =
+pub after_reported : (said : Stop → Type 0) {T : Type 0} (line report : T → List ℕ) (all : List T) (next : Option T) (out err : List ℕ → Type 0)
+    → EndsReportedAfter said line report all next out err → GoneReportedAfter report all next err
+after_reported said line report all next out err h =
     (h.0, h.1, after_gone line report all next out (λ bs. err (bs ++ reason h.0)) h.0 h.2)
 
 -- a whole check has answered its paths
@@ -82,19 +82,19 @@ pub cut_none : (question : Question) (err : List ℕ → Type 0) → BreaksOff [
 cut_none question err h = question_none question (λ reported. BreaksOff reported (reason Memory) err) h
 
 -- a whole run of a question whose buffer can't be written reports that last
-pub gone_whole : (question : Question) (status : ℕ) (out : List ℕ → Type 0) (a b c : Option (List ℕ))
-    → Prints question status out (Appends a b) ⊎ ((status ≡ 2) × EndsReported question out (Appends a b)) → status < 2
+pub gone_whole : (said : Stop → Type 0) (question : Question) (status : ℕ) (out : List ℕ → Type 0) (a b c : Option (List ℕ))
+    → Prints question status out (Appends a b) ⊎ ((status ≡ 2) × EndsReported said question out (Appends a b)) → status < 2
     → Write ≢ Silence → Appends b c (reason Write) → GoneReported question (Appends a c)
-gone_whole question status out a b c h low can more = (
+gone_whole said question status out a b c h low can more = (
   Write,
   can,
-  question_whole question status out (Appends a b) (λ reported. Appends a c (reported ++ reason Write)) h low
+  question_whole said question status out (Appends a b) (λ reported. Appends a c (reported ++ reason Write)) h low
       (λ bs so. appends_on a b c bs (reason Write) so more),
 )
 
-pub cut_whole : (question : Question) (status : ℕ) (out : List ℕ → Type 0) (a b c : Option (List ℕ))
-    → Prints question status out (Appends a b) ⊎ ((status ≡ 2) × EndsReported question out (Appends a b)) → status < 2
+pub cut_whole : (said : Stop → Type 0) (question : Question) (status : ℕ) (out : List ℕ → Type 0) (a b c : Option (List ℕ))
+    → Prints question status out (Appends a b) ⊎ ((status ≡ 2) × EndsReported said question out (Appends a b)) → status < 2
     → BreaksOff [] (reason Write) (Appends b c) → GoneUnreported question (Appends a c) Write
-cut_whole question status out a b c h low cut =
-    question_whole question status out (Appends a b) (λ reported. BreaksOff reported (reason Write) (Appends a c)) h low
+cut_whole said question status out a b c h low cut =
+    question_whole said question status out (Appends a b) (λ reported. BreaksOff reported (reason Write) (Appends a c)) h low
     (λ bs so. cut_after a b c bs (reason Write) so cut)

@@ -4,6 +4,7 @@ pub mod TrimLemmas
 pub mod WalkLemmas
 pub mod StopLemmas
 pub mod CheckLemmas
+mod WorkedStops
 mod PrintsOnly
 mod TrimsOnly
 mod EndsOnly

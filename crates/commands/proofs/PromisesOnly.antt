@@ -1,6 +1,6 @@
 -- What a caller gets of promises of the crates below: of the headline, of the last answer of a walk, of
 -- a file of rules that is added by name, and of a matcher that keeps nothing yet.
-use Rattle.std.proofs.Common.{◌≡◌, ◌⊎◌, ℕ, Bool, true, false, List, Option, None, Some, Result, Ok, Err}
+use Rattle.std.proofs.Common.{◌≡◌, ◌⊎◌, Bool, true, false, List, Option, Some, Result, Err}
 use Rattle.ignore_base.specs.declared.fault.Fault.TheVariants.{StepLimit}
 use Rattle.ignore_base.specs.Problem.{Problem, io, memory}
 use Rattle.ignore_base.specs.Text.{Path}

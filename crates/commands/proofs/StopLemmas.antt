@@ -45,20 +45,21 @@ ends_lines root all first n line builder before middle after any Silence is with
 )
 
 -- the reason is reported after what was reported before
-pub ends_reported : (question : Question) (out : List ℕ → Type 0) (before middle after : Option (List ℕ)) (stop : Stop)
-    → Ends question out (Appends before middle) stop → stop ≢ Silence → Appends middle after (reason stop)
-    → EndsReported question out (Appends before after)
-ends_reported question out before middle after Usage h reported more = absurd h.1
-ends_reported question out before middle after Memory h reported more =
+pub ends_reported : (said : Stop → Type 0) (question : Question) (out : List ℕ → Type 0) (before middle after : Option (List ℕ)) (stop : Stop)
+    → Ends question out (Appends before middle) stop → said stop → stop ≢ Silence → Appends middle after (reason stop)
+    → EndsReported said question out (Appends before after)
+ends_reported said question out before middle after Usage h why reported more = absurd h.1
+ends_reported said question out before middle after Memory h why reported more =
     let so = h.1.3 in (
       Memory,
       reported,
       h.0,
       (h.1.0, h.1.1, h.1.2, (so.0, so.1, so.2, appends_on before middle after so.1 (reason Memory) so.3 more)),
+      why,
     )
-ends_reported question out before middle after Write h reported more =
-    let so = h.1 in (Write, reported, h.0, (so.0, so.1, so.2, appends_on before middle after so.1 (reason Write) so.3 more))
-ends_reported question out before middle after Silence h reported more = absurd (reported refl)
+ends_reported said question out before middle after Write h why reported more =
+    let so = h.1 in (Write, reported, h.0, (so.0, so.1, so.2, appends_on before middle after so.1 (reason Write) so.3 more), why)
+ends_reported said question out before middle after Silence h why reported more = absurd (reported refl)
 
 -- something before a list doesn't make it empty
 append_some : {A : Type 0} (xs ys : List A) → xs ≢ [] → xs ++ ys ≢ []
@@ -91,16 +92,16 @@ pub cut_after : (a b c : Option (List ℕ)) (written line : List ℕ) → Append
 cut_after a b c written line h k = (k.0, k.1, k.2, k.3, appends_on a b c written k.0 h k.4)
 
 -- the reason is the last report of a list or a check
-pub ends_reported_after : {T : Type 0} (line report : T → List ℕ) (all : List T) (next : Option T) (out : List ℕ → Type 0)
-    (before middle after : Option (List ℕ)) (stop : Stop) → EndsAfter line report all next out (Appends before middle) stop
-    → stop ≢ Silence → Appends middle after (reason stop) → EndsReportedAfter line report all next out (Appends before after)
-ends_reported_after line report all next out before middle after Usage h can more = absurd h
-ends_reported_after line report all next out before middle after Memory h can more =
-    (Memory, can, (h.0, appends_on before middle after (flat_map report all) (reason Memory) h.1 more))
-ends_reported_after line report all None out before middle after Write h can more = absurd h
-ends_reported_after line report all (Some x) out before middle after Write h can more =
-    (Write, can, (h.0, appends_on before middle after (flat_map report all) (reason Write) h.1 more))
-ends_reported_after line report all next out before middle after Silence h can more = absurd (can refl)
+pub ends_reported_after : (said : Stop → Type 0) {T : Type 0} (line report : T → List ℕ) (all : List T) (next : Option T) (out : List ℕ → Type 0)
+    (before middle after : Option (List ℕ)) (stop : Stop) → EndsAfter line report all next out (Appends before middle) stop → said stop
+    → stop ≢ Silence → Appends middle after (reason stop) → EndsReportedAfter said line report all next out (Appends before after)
+ends_reported_after said line report all next out before middle after Usage h why can more = absurd h
+ends_reported_after said line report all next out before middle after Memory h why can more =
+    (Memory, can, (h.0, appends_on before middle after (flat_map report all) (reason Memory) h.1 more), why)
+ends_reported_after said line report all None out before middle after Write h why can more = absurd h
+ends_reported_after said line report all (Some x) out before middle after Write h why can more =
+    (Write, can, (h.0, appends_on before middle after (flat_map report all) (reason Write) h.1 more), why)
+ends_reported_after said line report all next out before middle after Silence h why can more = absurd (can refl)
 
 -- what ended it at the next thing, before anything else, ended it after the things before
 pub ends_after : {T : Type 0} (line report : T → List ℕ) (all : List T) (next : Option T) (a b c x y z : Option (List ℕ)) (stop : Stop)

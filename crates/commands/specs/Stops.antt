@@ -3,9 +3,9 @@
 use Rattle.std.specs.Prelude.{◌≡◌, ◌≢◌, List, [], ◌∷◌, ◌++◌, codes, ⊤, Option, None, Some}
 use Rattle.std.specs.List.{flat_map}
 use Rattle.std.specs.Str.Lines.{lines}
+use Rattle.std.specs.declared.io.ErrorKind.{ErrorKind}
 use Rattle.ignore_base.specs.Text.{Bytes, Path}
-use Rattle.ignore_base.specs.Problem.{Problem, several, at_line, at_path, at_depth, loop, io, glob, unrecognized, invalid_definition}
-use Rattle.ignore_base.specs.Problem.{memory}
+use Rattle.ignore_base.specs.Problem.{Problem, glob}
 use Rattle.ignore_rules.specs.Rules.{Building, LineOptions, Refuses}
 use Rattle.commands.specs.declared.stop.Stop.{Stop}
 use Rattle.commands.specs.declared.stop.Stop.TheVariants.{Usage, Memory, Write, Silence}
@@ -18,6 +18,13 @@ reason Usage = codes "usage: igwalk match ROOT RULES PATH d|f | list ROOT.. | ch
 reason Memory = codes "igwalk: out of memory" ++ 10 ∷ []
 reason Write = codes "igwalk: cannot write" ++ 10 ∷ []
 reason Silence = []
+
+-- that the output can't be written ends a run only where the output said so: by an error of some kind
+abbrev pub SaidBy : (ErrorKind → Type 0) → Stop → Type 0
+SaidBy fails Usage = ⊤
+SaidBy fails Memory = ⊤
+SaidBy fails Write = (kind : ErrorKind) × fails kind
+SaidBy fails Silence = ⊤
 
 -- what ends a run at a line with this problem: an invalid glob can't be reported, and the only
 -- other problem is out of memory
@@ -95,10 +102,10 @@ EndsAfter line report all (Some x) out err Write = BreaksOff (flat_map line all)
 EndsAfter line report all None out err Silence = ⊥
 EndsAfter line report all (Some x) out err Silence = out (flat_map line all ++ line x) × (report x ≢ [])
 
--- the same, and the reason was reported after the other reports
-abbrev pub EndsReportedAfter : {T : Type 0} → (T → Bytes) → (T → Bytes) → List T → Option T → (Bytes → Type 0) → (Bytes → Type 0) → Type 0
-EndsReportedAfter line report all next out err =
-    (stop : Stop) × (stop ≢ Silence) × EndsAfter line report all next out (λ bs. err (bs ++ reason stop)) stop
+-- the same for a reason of which this holds, which was reported after the other reports
+abbrev pub EndsReportedAfter : (Stop → Type 0) → {T : Type 0} → (T → Bytes) → (T → Bytes) → List T → Option T → (Bytes → Type 0) → (Bytes → Type 0) → Type 0
+EndsReportedAfter said line report all next out err =
+    (stop : Stop) × (stop ≢ Silence) × EndsAfter line report all next out (λ bs. err (bs ++ reason stop)) stop × said stop
 
 -- the same, and the reason can't be reported: after the other reports a beginning of it was written,
 -- and not all of it
@@ -106,10 +113,11 @@ abbrev pub EndsUnreportedAfter : {T : Type 0} → (T → Bytes) → (T → Bytes
 EndsUnreportedAfter line report all next out err stop =
     EndsAfter line report all next out (λ bs. BreaksOff bs (reason stop) err) stop
 
--- the run of a question ended early, and the reason was reported after the rejected lines
-abbrev pub EndsReported : Question → (Bytes → Type 0) → (Bytes → Type 0) → Type 0
-EndsReported question out err =
-    (stop : Stop) × (stop ≢ Silence) × Wrote out stop × ReportedOf question (λ reported. err (reported ++ reason stop)) stop
+-- the run of a question ended early for a reason of which this holds, which was reported after the
+-- rejected lines
+abbrev pub EndsReported : (Stop → Type 0) → Question → (Bytes → Type 0) → (Bytes → Type 0) → Type 0
+EndsReported said question out err =
+    (stop : Stop) × (stop ≢ Silence) × Wrote out stop × ReportedOf question (λ reported. err (reported ++ reason stop)) stop × said stop
 
 -- the same, and the reason can't be reported: a beginning of it was written after the rejected lines,
 -- and not all of it

@@ -1,21 +1,20 @@
--- Which items the program lists: those of the walk of its roots, in the bare tree.
-use Rattle.std.specs.Prelude.{◌≡◌, ◌<◌, ◌≤◌, ◌⊎◌, ℕ, true, false, List, [], ◌∷◌, ◌++◌, All, Option, None, Some, Err, IfSome}
-use Rattle.std.specs.Cmp.Lexicographic.{slice_cmp}
+-- Which items the program lists: those of the walk of its roots.
+use Rattle.std.specs.Prelude.{◌≡◌, ◌<◌, ◌⊎◌, ℕ, List, [], ◌∷◌, ◌++◌, All, Option, None, Err, IfSome}
 use Rattle.std.specs.List.{AllZip}
-use Rattle.std.specs.Ordering.{is_lt, nat_cmp}
 use Rattle.ignore_base.specs.declared.fault.Fault.TheVariants.{StepLimit}
 use Rattle.ignore_base.specs.Problem.{io}
 use Rattle.ignore_base.specs.Text.{Bytes, Path, slash}
-use Rattle.ignore_dir.specs.Load.{AreLoads, Loaded}
-use Rattle.ignore_dir.specs.Standard.{standard}
-use Rattle.ignore_dir.specs.declared.outside.Outside.{Outside}
+use Rattle.ignore_files.specs.Gives.{IsHonest}
 use Rattle.ignore_files.specs.Tree.{Tree}
 use Rattle.ignore_files.specs.declared.env.Env.{Env}
+use Rattle.ignore_files.specs.declared.files.Files.{Ghosts as Files}
 use Rattle.ignore_walk.specs.Entry.{Item}
-use Rattle.ignore_walk.specs.Scene.{Scene}
-use Rattle.ignore_walk.specs.Whole.{Whole}
-use Rattle.ignore.specs.Asked.{IsOutside}
-use Rattle.ignore.specs.Builder.{unset}
+use Rattle.ignore_walk.specs.declared.callbacks.Order.TheVariants.{ByName, Listed}
+use Rattle.ignore.specs.Builder.{unset, with_limit, with_order, with_roots}
+use Rattle.ignore.specs.Closures.{no_closures}
+use Rattle.ignore.specs.Headline.{Headline, IsBareScene, IsOnlyList}
+use Rattle.ignore.specs.ItsList.{ForItsList}
+use Rattle.ignore.specs.declared.options.WalkOptions.{WalkOptions}
 
 -- a root is the given one without the slashes at its end: it ends in a slash only where it is one
 -- alone, and it is empty only where the given one is
@@ -26,24 +25,14 @@ pub record IsTrimmed (given root : Path) : Type 0 where
   pub ends : (front : Bytes) → root ≡ front ++ slash ∷ [] → front ≡ []
   pub some : root ≡ [] → given ≡ []
 
--- what the walk of a list is a walk of: a tree with the loads of its directories, the settings at
--- first, these rules from outside, any device, each entry, and the names of a directory in the
--- order of texts
-abbrev pub listing : Tree → (Path → Loaded) → Outside → Scene
-listing tree loads outside =
-    record {
-      tree = tree;
-      loads = loads;
-      settings = standard;
-      outside = outside;
-      same_file_system = false;
-      keep = λ _. true;
-      order = Some (λ _ a b. is_lt (slice_cmp nat_cmp a b));
-    }
-
--- how many steps the walk may take
+-- how many steps the walk of a list may take
 abbrev pub most_steps : ℕ
 most_steps = 1000000000
+
+-- the settings of a list: these with the given roots, each without the slashes at its end, after the
+-- others, and with the limit of steps
+abbrev pub HasRoots : List Path → WalkOptions → WalkOptions → Type 0
+HasRoots given old b = (roots : List Path) × AllZip IsTrimmed given roots × (b ≡ with_limit (with_roots old roots) most_steps)
 
 -- these are a beginning of some items, and then the error of the limit
 pub record IsCut (all items : List Item) : Type 0 where
@@ -52,28 +41,40 @@ pub record IsCut (all items : List Item) : Type 0 where
   pub begins : items ≡ front ++ rest
   pub are : all ≡ front ++ Err (io StepLimit) ∷ []
 
--- these are all items of a walk of so many steps, or, where that is more than the limit, a
--- beginning of them, and then its error
-abbrev pub AreWithin : List Item → List Item → ℕ → Type 0
-AreWithin all items steps = ((steps ≤ most_steps) × (all ≡ items)) ⊎ ((most_steps < steps) × IsCut all items)
+-- the last of these is the error of the limit; before it they are a beginning of the list of the
+-- definition, if there is one, and that takes more steps than the limit
+abbrev pub AreCut : {F : Type 0} → Files F → F → Env → WalkOptions → List Item → Type 0
+AreCut files f env b all =
+    ((front : List Item) × (all ≡ front ++ Err (io StepLimit) ∷ []))
+    × ((tree : Tree) → IsHonest files f tree → ForItsList (IsBareScene b tree) env b tree (λ g items n. (b.limit < n) × IsCut all items))
+
+-- these items are all of a walk by these settings, without closures: the headline is true of them,
+-- and no others are such a list; or they were cut by the limit
+abbrev pub AreListed : {F : Type 0} → Files F → F → Env → WalkOptions → List Item → Type 0
+AreListed files f env b all =
+    (Headline files no_closures f tt env b Listed all × IsOnlyList files no_closures f tt env b Listed all) ⊎ AreCut files f env b all
 
 -- this item comes after the items before these: it is the first of them, or the error of the limit,
 -- where the walk takes more steps than that
-abbrev pub ComesNext : Item → List Item → ℕ → Type 0
-ComesNext item rest n = ((others : List Item) × (rest ≡ item ∷ others)) ⊎ ((item ≡ Err (io StepLimit)) × (most_steps < n))
+abbrev pub ComesNext : ℕ → Item → List Item → ℕ → Type 0
+ComesNext limit item rest n = ((others : List Item) × (rest ≡ item ∷ others)) ⊎ ((item ≡ Err (io StepLimit)) × (limit < n))
 
--- these are a beginning of the items of the walk of the given roots, as below, and the next one, if
--- one is given, comes after them; or there are none yet
-abbrev pub AreBegun : Tree → Env → List Path → List Item → Option Item → Type 0
-AreBegun tree env given all next =
-    ((all ≡ []) × (next ≡ None)) ⊎ ((roots : List Path) × AllZip IsTrimmed given roots × (o : Outside) × IsOutside tree env unset o
-    × ((loads : Path → Loaded) (items : List Item) (n : ℕ) → AreLoads tree standard loads → Whole (listing tree loads o) roots items n
-    → (rest : List Item) × (items ≡ all ++ rest) × IfSome next (λ item. ComesNext item rest n)))
+-- these are a beginning of the list of the definition, if there is one, and the next one, if one is
+-- given, comes after them
+abbrev pub AreBegun : {F : Type 0} → Files F → F → Env → WalkOptions → List Item → Option Item → Type 0
+AreBegun files f env b all next =
+    (tree : Tree) → IsHonest files f tree
+    → ForItsList (IsBareScene b tree) env b tree
+    (λ g items n. (rest : List Item) × (items ≡ all ++ rest) × IfSome next (λ item. ComesNext b.limit item rest n))
 
--- these are the items of the walk of the given roots, each without the slashes at its end, in the
--- bare tree: there are rules from outside, as they were read, by which they are what the roots give
-abbrev pub AreListed : Tree → Env → List Path → List Item → Type 0
-AreListed tree env given all =
-    (roots : List Path) × AllZip IsTrimmed given roots × (o : Outside) × IsOutside tree env unset o
-    × ((loads : Path → Loaded) (items : List Item) (n : ℕ) → AreLoads tree standard loads → Whole (listing tree loads o) roots items n
-    → AreWithin all items n)
+-- these items are all of the walk of the given roots by the settings at first, with the names of a
+-- directory in the order of texts
+abbrev pub AreListedOf : {F : Type 0} → Files F → F → Env → List Path → List Item → Type 0
+AreListedOf files f env given all = (b : WalkOptions) × HasRoots given (with_order unset ByName) b × AreListed files f env b all
+
+-- these are a beginning of the items of that walk, and the next one comes after them; or there are
+-- none yet
+abbrev pub AreBegunOf : {F : Type 0} → Files F → F → Env → List Path → List Item → Option Item → Type 0
+AreBegunOf files f env given all next =
+    ((all ≡ []) × (next ≡ None))
+    ⊎ ((b : WalkOptions) × HasRoots given (with_order unset ByName) b × AreBegun files f env b all next)

@@ -14,9 +14,10 @@ ghost use Rattle.ignore_query.specs.declared.kept.Cache.{Cache};
 ghost use Rattle.commands.specs.Checking.{AreAnswers, AreAnswersSoFar, AreFirst, Checked, Checks, IsAnswer, IsMatcher, IsReport, ReportsInTurn};
 ghost use Rattle.commands.specs.Checking.{answer_at, check_line, checked, is_wrong, line_for, report_for, with_next, word_of};
 ghost use Rattle.commands.specs.Listing.{is_known, report_of};
-ghost use Rattle.commands.specs.Stops.{BreaksOff, EndsAfter, EndsReportedAfter, EndsUnreportedAfter};
+ghost use Rattle.commands.specs.Stops.{BreaksOff, EndsAfter, EndsReportedAfter, EndsUnreportedAfter, SaidBy};
 
 use crate::listing::report;
+use crate::output::Output;
 use crate::stop::{Stop, report_stop};
 use crate::world::World;
 use crate::writing::{write_bytes, write_line};
@@ -31,7 +32,7 @@ use std::io::Write;
 ///
 /// # Errors
 /// Why the run ended, where that can't be written to `err`.
-pub fn check<F: Files, W: Write, E: Write>(
+pub fn check<F: Files, W: Output, E: Write>(
     world: &World<'_, F>,
     root: &str,
     paths: &[String],
@@ -42,7 +43,7 @@ pub fn check<F: Files, W: Write, E: Write>(
         (Appends (W.contents out.old) (W.contents out.new)) (Appends (E.contents err.old) (E.contents err.new))
         × ((tree : Tree) → IsHonest F.Files world.now.files.now tree → AreAnswers tree world.now.env.now root.now all))
         ⊎ ((status ≡ 2) × (all : List Checked) × (next : Option Checked) × AreFirst (map string_bytes paths.now) (with_next all next)
-        × EndsReportedAfter line_for report_for all next (Appends (W.contents out.old) (W.contents out.new))
+        × EndsReportedAfter (SaidBy (W.fails out.new)) line_for report_for all next (Appends (W.contents out.old) (W.contents out.new))
         (Appends (E.contents err.old) (E.contents err.new))
         × ((tree : Tree) → IsHonest F.Files world.now.files.now tree → AreAnswersSoFar tree world.now.env.now root.now (with_next all next)))) }
     ensures unreported { IfErr result (λ stop. (all : List Checked) × (next : Option Checked)
@@ -51,6 +52,7 @@ pub fn check<F: Files, W: Write, E: Write>(
         (Appends (E.contents err.old) (E.contents err.new)) stop
         × ((tree : Tree) → IsHonest F.Files world.now.files.now tree → AreAnswersSoFar tree world.now.env.now root.now (with_next all next))) }
     ensures status { IfOk result (λ status. status ≤ 2) }
+    ensures said { IfErr result (SaidBy (W.fails out.new)) }
 {
     match ask_and_write(world, root, paths, out, err) {
         Ok(false) => Ok(0),
@@ -60,7 +62,7 @@ pub fn check<F: Files, W: Write, E: Write>(
 }
 
 /// Asks a new matcher, and writes. It returns whether something was reported.
-fn ask_and_write<F: Files, W: Write, E: Write>(
+fn ask_and_write<F: Files, W: Output, E: Write>(
     world: &World<'_, F>,
     root: &str,
     paths: &[String],
@@ -75,6 +77,7 @@ fn ask_and_write<F: Files, W: Write, E: Write>(
         × EndsAfter line_for report_for all next (Appends (W.contents out.old) (W.contents out.new))
         (Appends (E.contents err.old) (E.contents err.new)) stop
         × ((tree : Tree) → IsHonest F.Files world.now.files.now tree → AreAnswersSoFar tree world.now.env.now root.now (with_next all next))) }
+    ensures said { IfErr result (SaidBy (W.fails out.new)) }
 {
     let Ok(mut matcher) = matcher_below(world, root) else {
         return Err(Stop::Memory);
@@ -97,7 +100,7 @@ fn matcher_below<F: Files>(world: &World<'_, F>, root: &str) -> Result<Increment
 }
 
 /// Asks a matcher about paths, and writes. It returns whether something was reported.
-fn check_paths<F: Files, W: Write, E: Write>(
+fn check_paths<F: Files, W: Output, E: Write>(
     world: &World<'_, F>,
     matcher: &mut IncrementalIgnore,
     paths: &[String],
@@ -114,6 +117,7 @@ fn check_paths<F: Files, W: Write, E: Write>(
         (Appends (E.contents err.old) (E.contents err.new)) stop
         × InEachScene F.Files world.now.files.now matcher.old.asked (λ g. Agrees g matcher.old.cache
         → All (IsAnswer g) (with_next all next) × ReportsInTurn g (with_next all next) matcher.old.cache last)) }
+    ensures said { IfErr result (SaidBy (W.fails out.new)) }
 {
     let mut any = false;
     for path in paths {
@@ -123,7 +127,7 @@ fn check_paths<F: Files, W: Write, E: Write>(
 }
 
 /// Asks a matcher about a path, and writes. It returns whether something was reported.
-fn check_path<F: Files, W: Write, E: Write>(
+fn check_path<F: Files, W: Output, E: Write>(
     world: &World<'_, F>,
     matcher: &mut IncrementalIgnore,
     path: &str,
@@ -141,6 +145,7 @@ fn check_path<F: Files, W: Write, E: Write>(
         → IsAnswer g c × IsReport g matcher.old.cache matcher.new.cache c.path c.problem))) }
     ensures agrees { InEachScene F.Files world.now.files.now matcher.old.asked (λ g. Agrees g matcher.old.cache → Agrees g matcher.new.cache) }
     ensures same { matcher.new.asked ≡ matcher.old.asked }
+    ensures said { IfErr result (SaidBy (W.fails out.new)) }
 {
     let (found, error) = ask(world, matcher, path)?;
     write_checked(path, found, error, out, err)
@@ -148,7 +153,7 @@ fn check_path<F: Files, W: Write, E: Write>(
 
 /// Writes what becomes of a path, and reports an error, if there is one. It returns whether there
 /// is.
-fn write_checked<W: Write, E: Write>(
+fn write_checked<W: Output, E: Write>(
     path: &str,
     found: IncrementalMatch,
     error: Option<Error>,
@@ -161,6 +166,7 @@ fn write_checked<W: Write, E: Write>(
         × (any ≡ is_wrong (checked path.now found (option_map problem_of error)))) }
     ensures ended { IfErr result (EndsAfter line_for report_for [] (Some (checked path.now found (option_map problem_of error)))
         (Appends (W.contents out.old) (W.contents out.new)) (Appends (E.contents err.old) (E.contents err.new))) }
+    ensures said { IfErr result (SaidBy (W.fails out.new)) }
 {
     write_found(found, path, out)?;
     report_some(error, err)
@@ -205,10 +211,11 @@ fn is_dir_at<F: Files>(world: &World<'_, F>, root: &str, path: &str) -> Result<b
 
 /// Writes the word of an answer and its path, on a line.
 #[tactic(auto, using(crate::proofs::StopLemmas::cut_first))]
-fn write_found<W: Write>(found: IncrementalMatch, path: &str, out: &mut W) -> Result<(), Stop>
+fn write_found<W: Output>(found: IncrementalMatch, path: &str, out: &mut W) -> Result<(), Stop>
     ensures writes { OnOk result (Appends (W.contents out.old) (W.contents out.new) (check_line found path.now)) }
     ensures cut { OnErr result (BreaksOff [] (check_line found path.now) (Appends (W.contents out.old) (W.contents out.new))) }
     ensures ended { IfErr result (λ stop. stop ≡ Stop.Write) }
+    ensures said { IfErr result (SaidBy (W.fails out.new)) }
 {
     write_bytes(word_for(found).as_bytes(), out)?;
     write_bytes(b" ", out)?;

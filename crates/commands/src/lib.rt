@@ -3,10 +3,10 @@
 //! paths below a root.
 #![tactic(auto)]
 
-mod by_name;
 mod checking;
 pub mod internal;
 mod listing;
+mod output;
 mod program;
 pub mod run;
 mod stop;
@@ -14,6 +14,7 @@ mod words;
 mod world;
 mod writing;
 
+pub use output::Output;
 pub use program::{run_buffered, words_after_name};
 pub use stop::{Stop, report_stop};
 pub use world::World;

@@ -5,34 +5,31 @@ ghost use Rattle.std.specs.Iterator.{Drains, IsFinite, YieldsThen};
 ghost use Rattle.std.specs.List.{AllZip};
 ghost use Rattle.ignore_base.specs.Problem.{memory, problem_of};
 ghost use Rattle.ignore_base.specs.declared.error.Error.{Error};
-ghost use Rattle.ignore_files.specs.Gives.{IsHonest};
-ghost use Rattle.ignore_files.specs.Tree.{Tree};
 ghost use Rattle.ignore_walk.specs.Entry.{Item, item_of};
-ghost use Rattle.ignore.specs.Asked.{IsOutside};
-ghost use Rattle.ignore.specs.Builder.{unset};
+ghost use Rattle.ignore_walk.specs.declared.callbacks.Order.TheVariants.{ByName};
 ghost use Rattle.ignore_walk.specs.declared.entry.DirEntry.{DirEntry};
+ghost use Rattle.ignore.specs.Builder.{unset, with_order};
 ghost use Rattle.commands.specs.Listing.{IsOf, Lists, report_line, lines_of, reports_of, is_reported};
-ghost use Rattle.commands.specs.Stops.{EndsAfter, EndsReportedAfter, EndsUnreportedAfter};
-ghost use Rattle.commands.specs.Walking.{AreBegun, AreListed, IsTrimmed};
+ghost use Rattle.commands.specs.Stops.{EndsAfter, EndsReportedAfter, EndsUnreportedAfter, SaidBy};
+ghost use Rattle.commands.specs.Walking.{AreBegunOf, AreListedOf, HasRoots, IsTrimmed};
 
-use crate::by_name::ByName;
+use crate::output::Output;
 use crate::stop::{Stop, report_stop};
 use crate::world::World;
 use crate::writing::write_line;
-use ignore::WalkBuilder;
+use ignore::walk_laws::{
+    a_builder_without_closures, a_finished_walk_has_no_other_list, a_finished_walk_is_the_headline,
+    a_run_begins_the_list, a_run_yields_the_list, only_the_last_item_ends,
+};
+use ignore::{Order, Owner, WalkBuilder, WalkOptions};
 use ignore_base::Error;
-use ignore_dir::{Outside, Settings};
 use ignore_files::{Files, Name};
-use ignore_walk::{DirEntry, Ground, Item, Options, Order, Walk, runs};
+use ignore_walk::{DirEntry, Item};
 use std::alloc::{AllocError, Global};
 use std::io::Write;
 
-/// By name, on any device, with a limit that ends a walk of links without end.
-const OPTIONS: Options = Options {
-    order: Order::ByName,
-    same_file_system: false,
-    limit: 1_000_000_000,
-};
+/// How many steps the walk of a list may take, so that one of links without end has an end.
+const MOST_STEPS: u64 = 1_000_000_000;
 
 /// Writes the paths of the entries of a walk of these roots, each on a line. What is wrong with an
 /// entry, or stands in its place, is reported on `err`. Names come in the order of texts, and the
@@ -40,7 +37,7 @@ const OPTIONS: Options = Options {
 ///
 /// # Errors
 /// Why the run ended, where that can't be written to `err`.
-pub fn list<F: Files, W: Write, E: Write>(
+pub fn list<F: Files, W: Output, E: Write>(
     world: &World<'_, F>,
     roots: &[String],
     out: &mut W,
@@ -48,15 +45,16 @@ pub fn list<F: Files, W: Write, E: Write>(
 ) -> Result<u8, Stop>
     ensures lists { IfOk result (λ status. ((items : List Item) × Lists items status
         (Appends (W.contents out.old) (W.contents out.new)) (Appends (E.contents err.old) (E.contents err.new))
-        × ((tree : Tree) → IsHonest F.Files world.now.files.now tree → AreListed tree world.now.env.now (map string_bytes roots.now) items))
-        ⊎ ((status ≡ 2) × (items : List Item) × (next : Option Item) × EndsReportedAfter lines_of reports_of items next
+        × AreListedOf F.Files world.now.files.now world.now.env.now (map string_bytes roots.now) items)
+        ⊎ ((status ≡ 2) × (items : List Item) × (next : Option Item) × EndsReportedAfter (SaidBy (W.fails out.new)) lines_of reports_of items next
         (Appends (W.contents out.old) (W.contents out.new)) (Appends (E.contents err.old) (E.contents err.new))
-        × ((tree : Tree) → IsHonest F.Files world.now.files.now tree → AreBegun tree world.now.env.now (map string_bytes roots.now) items next))) }
+        × AreBegunOf F.Files world.now.files.now world.now.env.now (map string_bytes roots.now) items next)) }
     ensures unreported { IfErr result (λ stop. (items : List Item) × (next : Option Item)
         × EndsUnreportedAfter lines_of reports_of items next (Appends (W.contents out.old) (W.contents out.new))
         (Appends (E.contents err.old) (E.contents err.new)) stop
-        × ((tree : Tree) → IsHonest F.Files world.now.files.now tree → AreBegun tree world.now.env.now (map string_bytes roots.now) items next)) }
+        × AreBegunOf F.Files world.now.files.now world.now.env.now (map string_bytes roots.now) items next) }
     ensures status { IfOk result (λ status. status ≤ 2) }
+    ensures said { IfErr result (SaidBy (W.fails out.new)) }
 {
     match walk_and_write(world, roots, out, err) {
         Ok(false) => Ok(0),
@@ -66,7 +64,7 @@ pub fn list<F: Files, W: Write, E: Write>(
 }
 
 /// Walks and writes. It returns whether something was reported.
-fn walk_and_write<F: Files, W: Write, E: Write>(
+fn walk_and_write<F: Files, W: Output, E: Write>(
     world: &World<'_, F>,
     roots: &[String],
     out: &mut W,
@@ -74,37 +72,54 @@ fn walk_and_write<F: Files, W: Write, E: Write>(
 ) -> Result<bool, Stop>
     ensures lists { IfOk result (λ any. (items : List Item) × Lists items (if any then 1 else 0)
         (Appends (W.contents out.old) (W.contents out.new)) (Appends (E.contents err.old) (E.contents err.new))
-        × ((tree : Tree) → IsHonest F.Files world.now.files.now tree → AreListed tree world.now.env.now (map string_bytes roots.now) items)) }
+        × AreListedOf F.Files world.now.files.now world.now.env.now (map string_bytes roots.now) items) }
     ensures ended { IfErr result (λ stop. (items : List Item) × (next : Option Item) × EndsAfter lines_of reports_of items next
         (Appends (W.contents out.old) (W.contents out.new)) (Appends (E.contents err.old) (E.contents err.new)) stop
-        × ((tree : Tree) → IsHonest F.Files world.now.files.now tree → AreBegun tree world.now.env.now (map string_bytes roots.now) items next)) }
+        × AreBegunOf F.Files world.now.files.now world.now.env.now (map string_bytes roots.now) items next) }
+    ensures said { IfErr result (SaidBy (W.fails out.new)) }
 {
-    let Ok(names) = trimmed_roots(world.alloc, roots) else {
+    let Ok(options) = list_options(world.alloc, roots) else {
         return Err(Stop::Memory);
     };
-    let Ok(outside) = outside_of(world) else {
+    let builder = WalkBuilder::from_options(options);
+    let lent = &builder;
+    let Ok(walk) = lent.build(world.files, world.env) else {
         return Err(Stop::Memory);
     };
-    let ground = Ground {
-        alloc: world.alloc,
-        files: world.files,
-        owner: ByName,
-        settings: Settings::standard(world.alloc),
-        outside,
-        options: OPTIONS,
-    };
-    let walk = Walk::new(ground, names);
-    runs::a_run_yields_the_list::<F, ByName>();
-    runs::a_run_begins_the_list::<F, ByName>();
+    a_builder_without_closures(lent);
+    a_finished_walk_is_the_headline::<F, Owner<'static>>();
+    a_finished_walk_has_no_other_list::<F, Owner<'static>>();
+    only_the_last_item_ends::<F, Owner<'static>>();
+    a_run_yields_the_list::<F, Owner<'static>>();
+    a_run_begins_the_list::<F, Owner<'static>>();
     write_items(walk, out, err)
 }
 
-/// The rules from outside of the directories, by the settings of a new builder.
-fn outside_of<F: Files>(world: &World<'_, F>) -> Result<Outside, Error>
-    ensures read { (tree : Tree) → IsHonest F.Files world.now.files.now tree → IfOk result (IsOutside tree world.now.env.now unset) }
+/// The settings of a list of these roots: those at first, but by name.
+fn list_options(alloc: Global, roots: &[String]) -> Result<WalkOptions, Error>
+    ensures value { IfOk result (λ walk. HasRoots (map string_bytes roots.now) (with_order unset ByName) walk) }
 {
-    let builder = WalkBuilder::empty(world.alloc);
-    builder.outside(world.files, world.env)
+    let mut walk = WalkOptions::empty(alloc);
+    walk.sort(Order::ByName);
+    prepare_list(alloc, roots, &mut walk)?;
+    Ok(walk)
+}
+
+/// Adds roots, without the slashes at their ends, to the settings of a walk, and sets the limit of
+/// steps of a list.
+///
+/// # Errors
+/// `Error::Memory` alone.
+pub fn prepare_list(alloc: Global, roots: &[String], walk: &mut WalkOptions) -> Result<(), Error>
+    ensures added { OnOk result (HasRoots (map string_bytes roots.now) walk.old walk.new) }
+    ensures out_of_memory { IfErr result (λ e. problem_of e ≡ memory) }
+{
+    let names = trimmed_roots(alloc, roots)?;
+    for name in names {
+        walk.push_root(name.as_str())?;
+    }
+    walk.limit(MOST_STEPS);
+    Ok(())
 }
 
 /// The roots without the slashes at their ends.
@@ -131,7 +146,7 @@ fn trimmed(root: &str) -> &str
 }
 
 /// Writes the items of a walk. It returns whether something was reported.
-fn write_items<I: Iterator<Item = Item>, W: Write, E: Write>(
+fn write_items<I: Iterator<Item = Item>, W: Output, E: Write>(
     items: I,
     out: &mut W,
     err: &mut E,
@@ -143,6 +158,7 @@ fn write_items<I: Iterator<Item = Item>, W: Write, E: Write>(
         × YieldsThen I.next_gives items all (Some x) v × (next : Option Item) × IsOf (item_of x) next
         × EndsAfter lines_of reports_of (map item_of all) next
         (Appends (W.contents out.old) (W.contents out.new)) (Appends (E.contents err.old) (E.contents err.new)) stop) }
+    ensures said { IfErr result (SaidBy (W.fails out.new)) }
 {
     let mut any = false;
     for item in items {
@@ -153,7 +169,7 @@ fn write_items<I: Iterator<Item = Item>, W: Write, E: Write>(
 
 /// Writes an item. It returns whether something was reported.
 #[tactic(auto, using(crate::proofs::ItemLemmas::ends_at))]
-fn write_item<W: Write, E: Write>(item: Item, out: &mut W, err: &mut E) -> Result<bool, Stop>
+fn write_item<W: Output, E: Write>(item: Item, out: &mut W, err: &mut E) -> Result<bool, Stop>
     ensures lists { IfOk result (λ any. Appends (W.contents out.old) (W.contents out.new) (lines_of (item_of item))
         × Appends (E.contents err.old) (E.contents err.new) (reports_of (item_of item)) × (any ≡ is_reported (item_of item))) }
     ensures enough { OnOk result (item_of item ≢ Err memory) }
@@ -162,6 +178,7 @@ fn write_item<W: Write, E: Write>(item: Item, out: &mut W, err: &mut E) -> Resul
     ensures ended { IfErr result (λ stop. (next : Option Item) × IsOf (item_of item) next
         × EndsAfter lines_of reports_of [] next (Appends (W.contents out.old) (W.contents out.new))
         (Appends (E.contents err.old) (E.contents err.new)) stop) }
+    ensures said { IfErr result (SaidBy (W.fails out.new)) }
 {
     match item {
         Ok(entry) => write_entry(&entry, out, err),
@@ -186,13 +203,18 @@ fn report_problem<E: Write>(error: &Error, err: &mut E) -> Result<bool, Stop>
 }
 
 /// Writes the path of an entry, and reports its problem, if it has one. It returns whether it has.
-fn write_entry<W: Write, E: Write>(entry: &DirEntry, out: &mut W, err: &mut E) -> Result<bool, Stop>
+fn write_entry<W: Output, E: Write>(
+    entry: &DirEntry,
+    out: &mut W,
+    err: &mut E,
+) -> Result<bool, Stop>
     ensures lists { IfOk result (λ any. Appends (W.contents out.old) (W.contents out.new) (lines_of (item_of (Ok entry.now)))
         × Appends (E.contents err.old) (E.contents err.new) (reports_of (item_of (Ok entry.now)))
         × (any ≡ is_reported (item_of (Ok entry.now)))) }
     ensures ended { IfErr result (EndsAfter lines_of reports_of [] (Some (item_of (Ok entry.now)))
         (Appends (W.contents out.old) (W.contents out.new)) (Appends (E.contents err.old) (E.contents err.new))) }
     ensures enough { IfErr result (λ stop. stop ≢ Stop.Memory) }
+    ensures said { IfErr result (SaidBy (W.fails out.new)) }
 {
     write_line(entry.path(), out)?;
     match entry.error() {

@@ -1,6 +1,6 @@
 //! What the `main` of a program does around a run: the words after its name, and a buffer before its
 //! output.
-ghost use Rattle.std.specs.Prelude.{◌≡◌, ◌≤◌, ◌⊎◌, List, [], Option, None, Some, IfErr, IfOk, IfSome, drop, map, string_bytes};
+ghost use Rattle.std.specs.Prelude.{◌≡◌, ◌≤◌, ◌⊎◌, ⊤, List, [], Option, None, Some, IfErr, IfOk, IfSome, drop, map, string_bytes};
 ghost use Rattle.std.specs.Io.Buffered.{writer_contents};
 ghost use Rattle.std.specs.Io.KnownBytes.{Appends, Keeps};
 ghost use Rattle.std.specs.Iterator.{Drains, IsFinite};
@@ -11,8 +11,8 @@ ghost use Rattle.ignore_walk.specs.Entry.{Item};
 ghost use Rattle.commands.specs.Checking.{AreAnswers, AreAnswersSoFar, AreFirst, Checked, Checks, line_for, report_for, with_next};
 ghost use Rattle.commands.specs.Listing.{Lists, lines_of, reports_of};
 ghost use Rattle.commands.specs.Matching.{Prints};
-ghost use Rattle.commands.specs.Stops.{BreaksOff, EndsReported, EndsReportedAfter, GoneReported, GoneReportedAfter, GoneUnreported, GoneUnreportedAfter, reason};
-ghost use Rattle.commands.specs.Walking.{AreBegun, AreListed};
+ghost use Rattle.commands.specs.Stops.{BreaksOff, EndsReported, EndsReportedAfter, GoneReported, GoneReportedAfter, GoneUnreported, GoneUnreportedAfter, SaidBy, reason};
+ghost use Rattle.commands.specs.Walking.{AreBegunOf, AreListedOf};
 ghost use Rattle.commands.specs.Words.{Question, command_of, of_check, of_list, of_match};
 
 use crate::run::run;
@@ -54,7 +54,8 @@ fn all_words<T: Drop, I: Iterator<Item = T>>(alloc: Global, words: I) -> Result<
 
 /// Runs the words as [`run`] does, with a buffer before the output. It returns the status, and the
 /// output where all that was written stands on it. Where memory doesn't suffice for the buffer, or
-/// it can't be written, there is none, the status is 2, and the reason is reported last.
+/// it can't be written, there is none, the status is 2, and the reason is reported last. A writer of
+/// std may fail by any error.
 ///
 /// # Errors
 /// Why the run ended, where that can't be written to `err`. The status is then 2 too.
@@ -69,21 +70,21 @@ pub fn run_buffered<F: Files, W: Write + Drop, E: Write>(
     ensures prints { (question : Question) → command_of (map string_bytes words.now) ≡ Some (of_match question)
         → IfOk result (λ r. IfSome r.1 (λ w. Prints question r.0 (Appends (W.contents out) (W.contents w))
         (Appends (E.contents err.old) (E.contents err.new))
-        ⊎ ((r.0 ≡ 2) × EndsReported question (Appends (W.contents out) (W.contents w))
+        ⊎ ((r.0 ≡ 2) × EndsReported (SaidBy (λ kind. ⊤)) question (Appends (W.contents out) (W.contents w))
         (Appends (E.contents err.old) (E.contents err.new))))) }
     ensures lists { (roots : List Path) → command_of (map string_bytes words.now) ≡ Some (of_list roots)
         → IfOk result (λ r. IfSome r.1 (λ w. ((items : List Item) × Lists items r.0
         (Appends (W.contents out) (W.contents w)) (Appends (E.contents err.old) (E.contents err.new))
-        × ((tree : Tree) → IsHonest F.Files world.now.files.now tree → AreListed tree world.now.env.now roots items))
-        ⊎ ((r.0 ≡ 2) × (items : List Item) × (next : Option Item) × EndsReportedAfter lines_of reports_of items next
+        × AreListedOf F.Files world.now.files.now world.now.env.now roots items)
+        ⊎ ((r.0 ≡ 2) × (items : List Item) × (next : Option Item) × EndsReportedAfter (SaidBy (λ kind. ⊤)) lines_of reports_of items next
         (Appends (W.contents out) (W.contents w)) (Appends (E.contents err.old) (E.contents err.new))
-        × ((tree : Tree) → IsHonest F.Files world.now.files.now tree → AreBegun tree world.now.env.now roots items next)))) }
+        × AreBegunOf F.Files world.now.files.now world.now.env.now roots items next))) }
     ensures checks { (root : Path) (paths : List Path) → command_of (map string_bytes words.now) ≡ Some (of_check root paths)
         → IfOk result (λ r. IfSome r.1 (λ w. ((all : List Checked) × Checks paths all r.0
         (Appends (W.contents out) (W.contents w)) (Appends (E.contents err.old) (E.contents err.new))
         × ((tree : Tree) → IsHonest F.Files world.now.files.now tree → AreAnswers tree world.now.env.now root all))
         ⊎ ((r.0 ≡ 2) × (all : List Checked) × (next : Option Checked) × AreFirst paths (with_next all next)
-        × EndsReportedAfter line_for report_for all next (Appends (W.contents out) (W.contents w))
+        × EndsReportedAfter (SaidBy (λ kind. ⊤)) line_for report_for all next (Appends (W.contents out) (W.contents w))
         (Appends (E.contents err.old) (E.contents err.new))
         × ((tree : Tree) → IsHonest F.Files world.now.files.now tree → AreAnswersSoFar tree world.now.env.now root (with_next all next))))) }
     ensures usage { command_of (map string_bytes words.now) ≡ None
@@ -99,13 +100,13 @@ pub fn run_buffered<F: Files, W: Write + Drop, E: Write>(
     ensures gone_list { (roots : List Path) → command_of (map string_bytes words.now) ≡ Some (of_list roots)
         → IfOk result (λ r. r.1 ≡ None → (items : List Item) × (next : Option Item)
         × GoneReportedAfter reports_of items next (Appends (E.contents err.old) (E.contents err.new))
-        × ((tree : Tree) → IsHonest F.Files world.now.files.now tree
-        → AreBegun tree world.now.env.now roots items next ⊎ AreListed tree world.now.env.now roots items)) }
+        × (AreBegunOf F.Files world.now.files.now world.now.env.now roots items next
+        ⊎ AreListedOf F.Files world.now.files.now world.now.env.now roots items)) }
     ensures unreported_list { (roots : List Path) → command_of (map string_bytes words.now) ≡ Some (of_list roots)
         → IfErr result (λ stop. (items : List Item) × (next : Option Item)
         × GoneUnreportedAfter reports_of items next (Appends (E.contents err.old) (E.contents err.new)) stop
-        × ((tree : Tree) → IsHonest F.Files world.now.files.now tree
-        → AreBegun tree world.now.env.now roots items next ⊎ AreListed tree world.now.env.now roots items)) }
+        × (AreBegunOf F.Files world.now.files.now world.now.env.now roots items next
+        ⊎ AreListedOf F.Files world.now.files.now world.now.env.now roots items)) }
     ensures gone_check { (root : Path) (paths : List Path) → command_of (map string_bytes words.now) ≡ Some (of_check root paths)
         → IfOk result (λ r. r.1 ≡ None → (all : List Checked) × (next : Option Checked) × AreFirst paths (with_next all next)
         × GoneReportedAfter report_for all next (Appends (E.contents err.old) (E.contents err.new))

@@ -1,5 +1,5 @@
 //! The run of the program, over any two writers.
-ghost use Rattle.std.specs.Prelude.{◌≡◌, ◌≢◌, ◌≤◌, ◌⊎◌, ◌==◌, [], ℕ, List, Option, None, Some, true, false, OnOk, IfOk, IfErr, codes, length};
+ghost use Rattle.std.specs.Prelude.{◌≡◌, ◌≢◌, ◌≤◌, ◌⊎◌, ◌==◌, ◌∷◌, ◌++◌, [], ℕ, List, Option, None, Some, true, false, OnOk, IfOk, IfErr, codes, length};
 ghost use Rattle.std.specs.Prelude.{map, string_bytes, if◌then◌else◌};
 ghost use Rattle.std.specs.Io.KnownBytes.{Appends};
 ghost use Rattle.std.specs.Str.Lines.{lines};
@@ -12,16 +12,18 @@ ghost use Rattle.ignore_rules.specs.Rules.{begun, built};
 ghost use Rattle.ignore_walk.specs.Entry.{Item};
 ghost use Rattle.commands.specs.Listing.{Lists, lines_of, reports_of};
 ghost use Rattle.commands.specs.Checking.{AreAnswers, AreAnswersSoFar, AreFirst, Checked, Checks, line_for, report_for, with_next};
-ghost use Rattle.commands.specs.Walking.{AreBegun, AreListed};
+ghost use Rattle.commands.specs.Walking.{AreBegunOf, AreListedOf};
 ghost use Rattle.commands.specs.Words.{Question, command_of, of_check, of_list, of_match, request_view};
-ghost use Rattle.commands.specs.Stops.{BreaksOff, Ends, EndsAnswer, EndsLine, EndsLines, EndsReported, EndsReportedAfter, EndsUnreported, EndsUnreportedAfter, line_stop, reason};
+ghost use Rattle.commands.specs.Stops.{BreaksOff, Ends, EndsAnswer, EndsLine, EndsLines, EndsReported, EndsReportedAfter, EndsUnreported, EndsUnreportedAfter, SaidBy, line_stop, reason};
 ghost use Rattle.commands.specs.Matching.{AddsAll, AddsOne, Prints, answer_line, answer_of, refusal};
 
 use crate::checking::check;
 use crate::listing::list;
+use crate::output::Output;
 use crate::stop::{Stop, report_stop};
 use crate::words::{Command, Request, read_command};
 use crate::world::World;
+use crate::writing::{write_bytes, write_line};
 use ignore_base::{Error, Match};
 use ignore_files::Files;
 use ignore_rules::gitignore::{Gitignore, GitignoreBuilder};
@@ -85,7 +87,7 @@ fn add_lines<E: Write>(
 }
 
 /// Writes the answer of a matcher for a path.
-fn write_answer<W: Write>(
+fn write_answer<W: Output>(
     out: &mut W,
     matcher: &Gitignore,
     path: &str,
@@ -94,21 +96,28 @@ fn write_answer<W: Write>(
     ensures answers { OnOk result (Appends (W.contents out.old) (W.contents out.new)
         (answer_line (answer_of matcher.now path.now is_dir))) }
     ensures ended { IfErr result (EndsAnswer (Appends (W.contents out.old) (W.contents out.new))) }
+    ensures said { IfErr result (SaidBy (W.fails out.new)) }
 {
-    let written = match matcher.matched(path, is_dir) {
-        Ok(Match::None) => writeln!(out, "none"),
-        Ok(Match::Ignore(rule)) => writeln!(out, "ignore {}", rule.original()),
-        Ok(Match::Whitelist(rule)) => writeln!(out, "whitelist {}", rule.original()),
-        Err(_) => return Err(Stop::Memory),
-    };
-    match written {
-        Ok(()) => Ok(()),
-        Err(_) => Err(Stop::Write),
+    match matcher.matched(path, is_dir) {
+        Ok(Match::None) => write_line("none", out),
+        Ok(Match::Ignore(rule)) => write_rule(b"ignore ", rule.original(), out),
+        Ok(Match::Whitelist(rule)) => write_rule(b"whitelist ", rule.original(), out),
+        Err(_) => Err(Stop::Memory),
     }
 }
 
+/// Writes a word with the space after it, and a rule, on a line.
+fn write_rule<W: Output>(word: &[u8], rule: &str, out: &mut W) -> Result<(), Stop>
+    ensures writes { OnOk result (Appends (W.contents out.old) (W.contents out.new) (word.now ++ (rule.now ++ 10 ∷ []))) }
+    ensures ended { IfErr result (λ stop. stop ≡ Stop.Write) }
+    ensures said { IfErr result (SaidBy (W.fails out.new)) }
+{
+    write_bytes(word, out)?;
+    write_line(rule, out)
+}
+
 /// Answers a question. Returns whether a line of its rules was rejected.
-fn answer<W: Write, E: Write>(
+fn answer<W: Output, E: Write>(
     alloc: Global,
     request: Request<'_>,
     out: &mut W,
@@ -118,6 +127,7 @@ fn answer<W: Write, E: Write>(
         (Appends (W.contents out.old) (W.contents out.new)) (Appends (E.contents err.old) (E.contents err.new))) }
     ensures ended { IfErr result (Ends (request_view request.entry)
         (Appends (W.contents out.old) (W.contents out.new)) (Appends (E.contents err.old) (E.contents err.new))) }
+    ensures said { IfErr result (SaidBy (W.fails out.new)) }
 {
     let Ok(mut builder) = GitignoreBuilder::new(alloc, request.root) else {
         return Err(Stop::Memory);
@@ -129,7 +139,7 @@ fn answer<W: Write, E: Write>(
 }
 
 /// Answers a question, and reports why that ended early. It returns the status.
-fn answer_or_report<W: Write, E: Write>(
+fn answer_or_report<W: Output, E: Write>(
     alloc: Global,
     request: Request<'_>,
     out: &mut W,
@@ -137,11 +147,12 @@ fn answer_or_report<W: Write, E: Write>(
 ) -> Result<u8, Stop>
     ensures prints { IfOk result (λ status. Prints (request_view request.entry) status
         (Appends (W.contents out.old) (W.contents out.new)) (Appends (E.contents err.old) (E.contents err.new))
-        ⊎ ((status ≡ 2) × EndsReported (request_view request.entry) (Appends (W.contents out.old) (W.contents out.new))
+        ⊎ ((status ≡ 2) × EndsReported (SaidBy (W.fails out.new)) (request_view request.entry) (Appends (W.contents out.old) (W.contents out.new))
         (Appends (E.contents err.old) (E.contents err.new)))) }
     ensures unreported { IfErr result (EndsUnreported (request_view request.entry)
         (Appends (W.contents out.old) (W.contents out.new)) (Appends (E.contents err.old) (E.contents err.new))) }
     ensures status { IfOk result (λ status. status ≤ 2) }
+    ensures said { IfErr result (SaidBy (W.fails out.new)) }
 {
     match answer(alloc, request, out, err) {
         Ok(false) => Ok(0),
@@ -167,7 +178,7 @@ fn answer_or_report<W: Write, E: Write>(
 ///
 /// # Errors
 /// Why the run ended, where that can't be written to `err`. The status is then 2 too.
-pub fn run<F: Files, W: Write, E: Write>(
+pub fn run<F: Files, W: Output, E: Write>(
     world: &World<'_, F>,
     words: &[String],
     out: &mut W,
@@ -181,7 +192,7 @@ pub fn run<F: Files, W: Write, E: Write>(
     ensures prints { (question : Question) → command_of (map string_bytes words.now) ≡ Some (of_match question)
         → IfOk result (λ status. Prints question status (Appends (W.contents out.old) (W.contents out.new))
         (Appends (E.contents err.old) (E.contents err.new))
-        ⊎ ((status ≡ 2) × EndsReported question (Appends (W.contents out.old) (W.contents out.new))
+        ⊎ ((status ≡ 2) × EndsReported (SaidBy (W.fails out.new)) question (Appends (W.contents out.old) (W.contents out.new))
         (Appends (E.contents err.old) (E.contents err.new)))) }
     ensures unreported { (question : Question) → command_of (map string_bytes words.now) ≡ Some (of_match question)
         → IfErr result (EndsUnreported question (Appends (W.contents out.old) (W.contents out.new))
@@ -189,21 +200,21 @@ pub fn run<F: Files, W: Write, E: Write>(
     ensures lists { (roots : List Path) → command_of (map string_bytes words.now) ≡ Some (of_list roots)
         → IfOk result (λ status. ((items : List Item) × Lists items status
         (Appends (W.contents out.old) (W.contents out.new)) (Appends (E.contents err.old) (E.contents err.new))
-        × ((tree : Tree) → IsHonest F.Files world.now.files.now tree → AreListed tree world.now.env.now roots items))
-        ⊎ ((status ≡ 2) × (items : List Item) × (next : Option Item) × EndsReportedAfter lines_of reports_of items next
+        × AreListedOf F.Files world.now.files.now world.now.env.now roots items)
+        ⊎ ((status ≡ 2) × (items : List Item) × (next : Option Item) × EndsReportedAfter (SaidBy (W.fails out.new)) lines_of reports_of items next
         (Appends (W.contents out.old) (W.contents out.new)) (Appends (E.contents err.old) (E.contents err.new))
-        × ((tree : Tree) → IsHonest F.Files world.now.files.now tree → AreBegun tree world.now.env.now roots items next))) }
+        × AreBegunOf F.Files world.now.files.now world.now.env.now roots items next)) }
     ensures unreported_list { (roots : List Path) → command_of (map string_bytes words.now) ≡ Some (of_list roots)
         → IfErr result (λ stop. (items : List Item) × (next : Option Item)
         × EndsUnreportedAfter lines_of reports_of items next (Appends (W.contents out.old) (W.contents out.new))
         (Appends (E.contents err.old) (E.contents err.new)) stop
-        × ((tree : Tree) → IsHonest F.Files world.now.files.now tree → AreBegun tree world.now.env.now roots items next)) }
+        × AreBegunOf F.Files world.now.files.now world.now.env.now roots items next) }
     ensures checks { (root : Path) (paths : List Path) → command_of (map string_bytes words.now) ≡ Some (of_check root paths)
         → IfOk result (λ status. ((all : List Checked) × Checks paths all status
         (Appends (W.contents out.old) (W.contents out.new)) (Appends (E.contents err.old) (E.contents err.new))
         × ((tree : Tree) → IsHonest F.Files world.now.files.now tree → AreAnswers tree world.now.env.now root all))
         ⊎ ((status ≡ 2) × (all : List Checked) × (next : Option Checked) × AreFirst paths (with_next all next)
-        × EndsReportedAfter line_for report_for all next (Appends (W.contents out.old) (W.contents out.new))
+        × EndsReportedAfter (SaidBy (W.fails out.new)) line_for report_for all next (Appends (W.contents out.old) (W.contents out.new))
         (Appends (E.contents err.old) (E.contents err.new))
         × ((tree : Tree) → IsHonest F.Files world.now.files.now tree → AreAnswersSoFar tree world.now.env.now root (with_next all next)))) }
     ensures unreported_check { (root : Path) (paths : List Path) → command_of (map string_bytes words.now) ≡ Some (of_check root paths)
@@ -212,6 +223,7 @@ pub fn run<F: Files, W: Write, E: Write>(
         (Appends (E.contents err.old) (E.contents err.new)) stop
         × ((tree : Tree) → IsHonest F.Files world.now.files.now tree → AreAnswersSoFar tree world.now.env.now root (with_next all next))) }
     ensures status { IfOk result (λ status. status ≤ 2) }
+    ensures said { IfErr result (SaidBy (W.fails out.new)) }
 {
     match read_command(words) {
         Some(Command::Match(request)) => answer_or_report(world.alloc, request, out, err),

@@ -27,8 +27,11 @@ pub mod UnusedLemmas
 pub mod WalkLemmas
 pub mod WhyLemmas
 pub mod WorkedLines
+pub mod WorkedLint
 pub mod WorkedNames
 pub mod WorkedRepositories
+mod WorkedSame
 pub mod WorkedSides
+mod WorkedStops
 pub mod WorkedUnused
 pub mod WorkedWorktree

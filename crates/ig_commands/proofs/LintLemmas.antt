@@ -1,12 +1,16 @@
 -- What is written of files in turn, and of the rules of one.
-use Rattle.std.proofs.Common.{◌≡◌, ◌<◌, ◌+◌, ◌||◌, ℕ, Bool, true, false, List, [], ◌∷◌, ◌++◌, Option, get_or, length, refl, sym, subst, ap, take, ◌∙◌}
+use Rattle.std.proofs.Common.{◌≡◌, ◌<◌, ◌+◌, ◌||◌, ℕ, Bool, true, false, List, [], ◌∷◌, ◌++◌, Option, None, arith, get_or, length, refl, sym, subst, ap, take, ◌∙◌}
 use Rattle.std.proofs.lemmas.Grind.{flat_map-append}
 use Rattle.std.proofs.lemmas.List.{append-nil, take_more}
+use Rattle.std.proofs.lemmas.List.Elements.{Contains-append_left, Contains-append_right}
 use Rattle.std.proofs.lemmas.List.Folds.{list_any-append}
+use Rattle.std.specs.Io.KnownBytes.{Appends}
 use Rattle.std.specs.List.{AllZip, flat_map, list_any}
 use Rattle.ignore_base.specs.Text.{Path}
-use Rattle.ignore_files.specs.Tree.{Tree}
-use Rattle.ig_commands.specs.Lint.{IsLook, Look, given_path, looked, unread}
+use Rattle.commands.proofs.LineLemmas.{appends_nothing, appends_on}
+use Rattle.ig_commands.specs.Lint.{CountsSoFar, HasOther, IsCounted, given_path}
+use Rattle.ig_commands.specs.Names.{names_told}
+use Rattle.ig_commands.specs.declared.names.Unnamed.{Unnamed}
 use Rattle.ig_options.specs.declared.given.Given.{Given}
 use Rattle.ig_options.specs.declared.options.Options.{Options}
 use Rattle.ig_commands.proofs.SurveyLemmas.{zip_push}
@@ -28,27 +32,6 @@ zip_more R all i one others other within here h k =
     let more : take (i + 1) all ≡ take i all ++ one ∷ [] = take_more all i one within ∙ ap (λ x. take i all ++ x ∷ []) (sym here) in
     subst (λ (xs : List _). AllZip R xs (others ++ other ∷ [])) (sym more) (zip_push R (take i all) others one other h k)
 
--- what was found of files, where notes may be asked for
-look_may : (tree : Tree) (o : Options) (b : Bool) (path : Path) (look : Look) → IsLook tree o b path look → IsLook tree o true path look
-look_may tree o b path (unread p fault) h = h
-look_may tree o b path (looked p fault l told) (same, (contents, is, ends, (has_notes, may, linted), zip)) =
-    (same, (contents, is, ends, (has_notes, tt, linted), zip))
-
-pub may_be : (tree : Tree) (o : Options) (b : Bool) (paths : List Path) (looks : List Look) → AllZip (IsLook tree o b) paths looks
-    → AllZip (IsLook tree o true) paths looks
-may_be tree o b [] [] h = h
-may_be tree o b [] (look ∷ looks) h = h
-may_be tree o b (path ∷ paths) [] h = h
-may_be tree o b (path ∷ paths) (look ∷ looks) (first, rest) = (look_may tree o b path look first, may_be tree o b paths looks rest)
-
--- what was found of some files, and of others
-pub looks_then : (tree : Tree) (o : Options) (paths others : List Path) (looks more : List Look) → AllZip (IsLook tree o true) paths looks
-    → AllZip (IsLook tree o true) others more → AllZip (IsLook tree o true) (paths ++ others) (looks ++ more)
-looks_then tree o [] others [] more h k = k
-looks_then tree o [] others (look ∷ looks) more h k = absurd h
-looks_then tree o (path ∷ paths) others [] more h k = absurd h
-looks_then tree o (path ∷ paths) others (look ∷ looks) more (first, rest) k = (first, looks_then tree o paths others looks more rest k)
-
 -- the paths that are given, up to one more
 pub given_more : (all : List Given) (i : ℕ) (one : Given) (old new : List Path) → i < length all → one ≡ get_or all i one
     → old ≡ flat_map given_path (take i all) → new ≡ old ++ given_path one → new ≡ flat_map given_path (take (i + 1) all)
@@ -58,3 +41,39 @@ given_more all i one old new within here h is =
     ∙ (ap (λ ps. ps ++ given_path one) h
     ∙ sym (ap (flat_map given_path) more
     ∙ (flat_map-append given_path (take i all) (one ∷ []) ∙ ap (λ ps. flat_map given_path (take i all) ++ ps) (append-nil (given_path one)))))
+
+-- what was reported of files that were looked at, after what was reported while they were sought
+pub reports_then : (a b d : Option (List ℕ)) (text : List ℕ) (reports : ℕ) → IsCounted reports (Appends a b) → Appends b d text
+    → IsCounted reports (λ told. Appends a d (told ++ text))
+reports_then a b d text reports (told, are, none) more = (told, appends_on a b d told text are more, none)
+
+-- nothing is reported yet
+pub none_yet : (a : Option (List ℕ)) → IsCounted 0 (Appends a a)
+none_yet a = ([], appends_nothing a, λ none. refl)
+
+-- one more is
+pub one_report : (a b d : Option (List ℕ)) (old new : ℕ) (text : List ℕ) → IsCounted old (Appends a b) → Appends b d text → 0 < new
+    → IsCounted new (Appends a d)
+one_report a b d old new text (told, are, none) more some = (told ++ text, appends_on a b d told text are more, λ is. absurd (omega (arith, is, some)))
+
+-- an item is noted
+pub noted_item : (a b d : Option (List ℕ)) (old new : ℕ) (names more : Option Unnamed) (text : List ℕ) → CountsSoFar old names a b → Appends b d text
+    → 0 < new → CountsSoFar new more a d
+noted_item a b d old new names more text (told, are, none) adds some =
+    (told ++ text, appends_on a b d told text are adds, λ is. absurd (omega (arith, is, some)))
+
+-- the names that were counted last are told
+pub told_names : (a b d : Option (List ℕ)) (reports : ℕ) (names : Option Unnamed) → CountsSoFar reports names a b → Appends b d (names_told names)
+    → IsCounted reports (Appends a d)
+told_names a b d reports names (told, are, none) more = (
+  told ++ names_told names,
+  appends_on a b d told (names_told names) are more,
+  λ is. (let h = none is in ap (λ t. t ++ names_told names) h.0 ∙ ap names_told h.1),
+)
+
+-- another of some files is one of them and more
+pub other_left : (xs ys : List Path) (path : Path) → HasOther xs path → HasOther (xs ++ ys) path
+other_left xs ys path (other, among, differs) = (other, Contains-append_left xs ys other among, differs)
+
+pub other_right : (xs ys : List Path) (path : Path) → HasOther ys path → HasOther (xs ++ ys) path
+other_right xs ys path (other, among, differs) = (other, Contains-append_right xs ys other among, differs)

@@ -2,6 +2,7 @@
 use Rattle.std.proofs.Common.{◌≡◌, ◌≢◌, ◌⊎◌, ◌∙◌, ℕ, List, [], Option, None, Some, Result, Ok, Err, IfErr, IfOk, inl, inr, refl, sym, ap, subst}
 use Rattle.std.proofs.lemmas.Result.{IfOk-weaker}
 use Rattle.std.specs.Io.KnownBytes.{Appends, Keeps}
+use Rattle.std.specs.declared.io.ErrorKind.{ErrorKind}
 use Rattle.ignore_files.specs.declared.env.Env.{Env}
 use Rattle.ignore_files.specs.declared.files.Files.{Ghosts as Files}
 use Rattle.ignore_types.specs.Types.{Draft}
@@ -10,7 +11,7 @@ use Rattle.ig_options.specs.declared.words.Task.{Task}
 use Rattle.ig_options.specs.declared.words.Task.TheVariants as command
 use Rattle.ig_commands.specs.Run.{Does, Ends, Finishes}
 use Rattle.ig_commands.specs.Run.Finishes.{whole, early as early_end, unwritten}
-use Rattle.ig_commands.specs.Stops.{EndsAfter, IsUnwritten, reason, stop_status}
+use Rattle.ig_commands.specs.Stops.{EndsAfter, IsUnwritten, SaidBy, reason, stop_status}
 use Rattle.ig_commands.specs.declared.run.Ran.{Ran}
 use Rattle.ig_commands.specs.declared.stop.Stop.{Stop}
 use Rattle.ig_commands.specs.declared.stop.Stop.TheVariants.{Silence}
@@ -53,22 +54,24 @@ ends_as files f env o d e t u input r out err types is h =
 
 -- a run finishes what was done, or what ended early
 pub finishes : (Done : ℕ → (List ℕ → Type 0) → (List ℕ → Type 0) → Type 0) (Ended : (List ℕ → Type 0) → (List ℕ → Type 0) → Stop → Type 0)
-    (r : Result ℕ Stop) (ran : Result Ran Stop) (out written now err reported told : Option (List ℕ))
+    (before fails : ErrorKind → Type 0) (r : Result ℕ Stop) (ran : Result Ran Stop) (out written now err reported told : Option (List ℕ))
     → IfOk r (λ status. Done status (Appends out written) (Appends err reported)) → IfErr r (Ended (Appends out written) (Appends err reported))
+    → IfErr r (SaidBy before)
     → IfOk r (λ given. IfOk ran (λ x. ((x.status ≡ given) × (told ≡ reported))
-    ⊎ ((stop : Stop) × IsUnwritten stop × (x.status ≡ stop_status stop) × Appends reported told (reason stop))))
-    → IfErr r (λ stop. IfOk ran (λ x. (x.status ≡ stop_status stop) × Appends reported told (reason stop))) → Keeps written now
-    → IfOk ran (λ x. Finishes Done Ended x.status out now err told)
-finishes Done Ended (Ok given) (Ok x) out written now err reported told done ended kept early keeps =
+    ⊎ ((stop : Stop) × IsUnwritten stop × (x.status ≡ stop_status stop) × Appends reported told (reason stop) × SaidBy fails stop)))
+    → IfErr r (λ stop. IfOk ran (λ x. (x.status ≡ stop_status stop) × Appends reported told (reason stop)))
+    → IfErr r (λ stop. SaidBy before stop → SaidBy fails stop) → Keeps written now
+    → IfOk ran (λ x. Finishes Done Ended fails x.status out now err told)
+finishes Done Ended before fails (Ok given) (Ok x) out written now err reported told done ended why kept early still keeps =
     elim kept [
       | inl (is, same) ↦ whole written
           (subst (λ (s : ℕ). Done s (Appends out written) (Appends err told)) (sym is)
           (subst (λ (t : Option (List ℕ)). Done given (Appends out written) (Appends err t)) (sym same) done)) keeps
-      | inr (stop, which, is, more) ↦ unwritten given written reported stop done which keeps is more
+      | inr (stop, which, is, more, so) ↦ unwritten given written reported stop done which keeps is more so
     ]
-finishes Done Ended (Err stop) (Ok x) out written now err reported told done ended kept early keeps =
-    early_end written reported stop ended keeps early.0 early.1
-finishes Done Ended r (Err s) out written now err reported told done ended kept early keeps = tt
+finishes Done Ended before fails (Err stop) (Ok x) out written now err reported told done ended why kept early still keeps =
+    early_end written reported stop ended keeps early.0 early.1 (still why)
+finishes Done Ended before fails r (Err s) out written now err reported told done ended why kept early still keeps = tt
 
 -- what is written at the end succeeds, or it fails
 abbrev pub IsWritten : ℕ → Result ℕ Stop → Type 0
@@ -95,12 +98,14 @@ late given r stop is (inr (s, why, e)) =
     let same : s ≡ stop = cc one in subst IsUnwritten same why
 
 -- what can't be written at the end is reported
-pub kept_err : (ended r told : Result ℕ Stop) (stop : Stop) (x y : Option (List ℕ)) → r ≡ Err stop → IfOk ended (λ given. IsWritten given r)
+pub kept_err : (before fails : ErrorKind → Type 0) (ended r told : Result ℕ Stop) (stop : Stop) (x y : Option (List ℕ)) → r ≡ Err stop
+    → IfOk ended (λ given. IsWritten given r) → (IfErr ended (SaidBy before) → SaidBy fails stop)
     → IfOk told (λ status. (status ≡ stop_status stop) × (stop ≢ Silence) × Appends x y (reason stop))
     → IfOk ended (λ given. IfOk told (λ status. ((status ≡ given) × (y ≡ x))
-    ⊎ ((s : Stop) × IsUnwritten s × (status ≡ stop_status s) × Appends x y (reason s))))
-kept_err (Ok given) r told stop x y is h k = IfOk-weaker told _ _ (λ status t. inr (stop, late given r stop is h, t.0, t.2)) k
-kept_err (Err s) r told stop x y is h k = tt
+    ⊎ ((s : Stop) × IsUnwritten s × (status ≡ stop_status s) × Appends x y (reason s) × SaidBy fails s)))
+kept_err before fails (Ok given) r told stop x y is h so k =
+    IfOk-weaker told _ _ (λ status t. inr (stop, late given r stop is h, t.0, t.2, so tt)) k
+kept_err before fails (Err s) r told stop x y is h so k = tt
 
 pub told_err : (ended r told : Result ℕ Stop) (stop : Stop) (x y : Option (List ℕ)) → r ≡ Err stop → IfErr ended (λ s. r ≡ Err s)
     → IfOk told (λ status. (status ≡ stop_status stop) × (stop ≢ Silence) × Appends x y (reason stop))

@@ -1,9 +1,10 @@
 -- What is written of two files that are compared.
-use Rattle.std.proofs.Common.{◌≡◌, ◌⊎◌, ◌++◌, ◌||◌, ℕ, Bool, true, false, List, [], Option, None, Some, Result, Ok, Err, IfOk, IfErr, inl, inr, refl, sym, subst, ◌∙◌, take, drop}
+use Rattle.std.proofs.Common.{◌≡◌, ◌≢◌, ◌⊎◌, ◌++◌, ◌||◌, ℕ, Bool, true, false, List, [], Option, None, Some, Result, Ok, Err, IfOk, IfErr, inl, inr, refl, sym, subst, ◌∙◌, take, drop}
 use Rattle.std.proofs.lemmas.List.{append-nil, take-append-drop}
 use Rattle.std.specs.Io.KnownBytes.{Appends}
 use Rattle.commands.proofs.LineLemmas.{appends_nothing, appends_on}
 use Rattle.ignore_every.specs.Differences.{AreDifferences}
+use Rattle.ignore_every.specs.declared.error.Error.TheVariants as refused
 use Rattle.ignore_every.specs.declared.error.Error.{Error as Refused}
 use Rattle.ignore_every.specs.declared.said.Difference.{Difference}
 use Rattle.ignore_every.specs.declared.said.Wanted.{Wanted}
@@ -34,16 +35,16 @@ pub compared : (o : Options) (most : Option ℕ) (sides : Sides) (wanted : Wante
     → reported ≡ is_told o sides → differ ≡ do_differ found → status ≡ status_by reported differ → Appends a b (differences_text o sides found)
     → Appends x y (told o sides) → Compares o most sides status (Appends a b) (Appends x y)
 compared o most sides wanted found items reported differ unread status a b x y free is w same so r d s out err =
-    inr (inl (
+    inr (
       sym is ∙ free,
-      (
+      inl (
         found,
         are_wanted o most sides wanted found items w same so,
         s ∙ subst (λ (t : Bool). status_by reported differ ≡ status_by t (do_differ found)) r (subst (λ (t : Bool). status_by reported differ ≡ status_by reported t) d refl),
         out,
         err,
       ),
-    ))
+    )
 
 -- one can't be read
 pub unread_one : (o : Options) (most : Option ℕ) (sides : Sides) (unread : Bool) (a x y : Option (List ℕ)) → unread ≡ true
@@ -51,11 +52,13 @@ pub unread_one : (o : Options) (most : Option ℕ) (sides : Sides) (unread : Boo
 unread_one o most sides unread a x y shut is err = inl (sym is ∙ shut, refl, appends_nothing a, err)
 
 -- they can't be compared, which is reported after the rest
-pub refused_both : (r : Result ℕ Stop) (o : Options) (most : Option ℕ) (sides : Sides) (reason : Refused) (a x y z : Option (List ℕ)) → Appends x y (told o sides)
-    → IfOk r (λ status. (status ≡ 2) × Appends y z (refused_line o reason)) → IfOk r (λ status. Compares o most sides status (Appends a a) (Appends x z))
-refused_both (Ok status) o most sides reason a x y z err h =
-    inr (inr (reason, h.0, appends_nothing a, appends_on x y z (told o sides) (refused_line o reason) err h.1))
-refused_both (Err stop) o most sides reason a x y z err h = tt
+pub refused_both : (r : Result ℕ Stop) (o : Options) (most : Option ℕ) (sides : Sides) (unread : Bool) (reason : Refused) (a x y z : Option (List ℕ))
+    → unread ≡ false → unread ≡ (is_unread sides.old || is_unread sides.new) → Appends x y (told o sides)
+    → IfOk r (λ status. (status ≡ 2) × Appends y z (refused_line o reason)) → IfOk r (λ status. reason ≢ refused.Memory)
+    → IfOk r (λ status. Compares o most sides status (Appends a a) (Appends x z))
+refused_both (Ok status) o most sides unread reason a x y z free is err h known =
+    inr (sym is ∙ free, inr (reason, known, h.0, appends_nothing a, appends_on x y z (told o sides) (refused_line o reason) err h.1))
+refused_both (Err stop) o most sides unread reason a x y z free is err h known = tt
 
 -- or it ends there
 pub ends_refused : (r : Result ℕ Stop) (o : Options) (most : Option ℕ) (sides : Sides) (a x y z : Option (List ℕ)) → Appends x y (told o sides)

@@ -2,11 +2,12 @@
 use Rattle.std.proofs.Common.{◌≡◌, ◌≢◌, ◌⊎◌, ℕ, List, [], ◌++◌, Option, Result, Ok, Err, IfOk, IfErr, OnOk, inl, inr, subst, sym}
 use Rattle.std.proofs.lemmas.List.{append-nil}
 use Rattle.std.specs.Io.KnownBytes.{Appends}
+use Rattle.std.specs.declared.io.ErrorKind.{ErrorKind}
 use Rattle.ignore_base.specs.Problem.{Problem, memory}
 use Rattle.commands.proofs.LineLemmas.{appends_nothing, appends_on}
 use Rattle.ig_commands.specs.declared.stop.Stop.{Stop}
 use Rattle.ig_commands.specs.declared.stop.Stop.TheVariants.{Memory, Read, Write, Closed, Silence}
-use Rattle.ig_commands.specs.Stops.{EndsAfter, EndsReading, IsUnwritten}
+use Rattle.ig_commands.specs.Stops.{EndsAfter, EndsReading, IsOther, IsUnwritten, SaidBy, write_stop}
 
 -- what ended it before anything of one more thing was written ended it after the things before
 pub ends_after : (written reported : List ℕ) (a b c x y z : Option (List ℕ)) (stop : Stop) → Appends a b written → Appends x y reported
@@ -71,3 +72,19 @@ pub ends_reading_reports : (written first reported : List ℕ) (out : List ℕ �
     → EndsReading written (first ++ reported) out (Appends x z) stop
 ends_reading_reports written first reported out x y z stop h (inl k) = inl (ends_after_reports written first reported out x y z stop h k)
 ends_reading_reports written first reported out x y z stop h (inr (read, k, more)) = inr (read, k, appends_on x y z first reported h more)
+
+-- a write that failed by an error of a kind ends a command for what its output said
+pub said_as : (fails : ErrorKind → Type 0) (stop : Stop) (kind : ErrorKind) → stop ≡ write_stop kind → fails kind → SaidBy fails stop
+said_as fails Memory kind is h = tt
+said_as fails Read kind is h = tt
+said_as fails (Write why) kind is h = (kind, h, sym is)
+said_as fails Closed kind is h = (kind, h, sym is)
+said_as fails Silence kind is h = tt
+
+-- what ends it besides is said by no output
+pub other_said : (fails : ErrorKind → Type 0) (stop : Stop) → IsOther stop → SaidBy fails stop
+other_said fails Memory h = tt
+other_said fails Read h = tt
+other_said fails (Write why) h = absurd h
+other_said fails Closed h = absurd h
+other_said fails Silence h = tt

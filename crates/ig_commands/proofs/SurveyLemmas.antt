@@ -23,8 +23,7 @@ use Rattle.ignore.specs.Matchers.{AreMatchers, asked_by}
 use Rattle.ignore.specs.declared.options.WalkOptions.{WalkOptions}
 use Rattle.ig_options.specs.declared.options.Options.{Options}
 use Rattle.ig_commands.specs.Counts.{capped, counted, one_more}
-use Rattle.ig_commands.specs.Listing.{GoesBy}
-use Rattle.ig_commands.specs.Surveys.{OfMatcher, OfRoot, Seen, all_seen}
+use Rattle.ig_commands.specs.Surveys.{AreRootsBy, OfMatcher, OfRoot, Seen, all_seen}
 
 -- one pair more
 pub zip_push : {A B : Type 0} (R : A → B → Type 0) (xs : List A) (ys : List B) (x : A) (y : B) → AllZip R xs ys → R x y
@@ -220,7 +219,7 @@ module _ {F X : Type 0} (files : Files F) (f : F) (view : X → OfRoot) (P : X �
   asked_all = made.2 ∙ ap (λ (rs : List (List ℕ)). map (by_root b.settings made.0 env.current_dir) (rs ++ roots)) none
 
   -- the rules from outside don't depend on the roots
-  goes_by : (names : List (List ℕ)) → names ≡ roots → GoesBy tree env o b names made.0
+  goes_by : (names : List (List ℕ)) → names ≡ roots → AreRootsBy tree env o b names made.0
   goes_by names same = record {
     trimmed = subst (λ (rs : List (List ℕ)). AllZip IsTrimmed (map string_bytes o.roots.items) rs) (sym same) trimmed;
     read = record {
@@ -233,7 +232,7 @@ module _ {F X : Type 0} (files : Files F) (f : F) (view : X → OfRoot) (P : X �
 
   -- what holds of each matcher holds of each root
   pub roots_of : (all : List X) → AllZip (λ m x. OfMatcher files f (P x) m (view x)) ms all
-      → (outside : Outside) × GoesBy tree env o b (map (λ (x : X). (view x).0) all) outside
+      → (outside : Outside) × AreRootsBy tree env o b (map (λ (x : X). (view x).0) all) outside
       × ((loads : List ℕ → Loaded) → AreLoads tree b.settings loads
       → All (λ x. P x (scene tree loads b.settings outside (view x).0) (view x).1) all)
   roots_of all zip = (
@@ -246,7 +245,7 @@ module _ {F X : Type 0} (files : Files F) (f : F) (view : X → OfRoot) (P : X �
   pub begun_of : (Q : QueryScene → List Seen → Type 0) (first : List IncrementalIgnore) (m : IncrementalIgnore)
       (others : List IncrementalIgnore) (done : List X) (last : OfRoot) → ms ≡ first ++ m ∷ others
       → AllZip (λ m x. OfMatcher files f (P x) m (view x)) first done → OfMatcher files f Q m last
-      → (rest : List (List ℕ)) × (outside : Outside) × GoesBy tree env o b (map (λ (x : X). (view x).0) done ++ last.0 ∷ rest) outside
+      → (rest : List (List ℕ)) × (outside : Outside) × AreRootsBy tree env o b (map (λ (x : X). (view x).0) done ++ last.0 ∷ rest) outside
       × ((loads : List ℕ → Loaded) → AreLoads tree b.settings loads
       → All (λ x. P x (scene tree loads b.settings outside (view x).0) (view x).1) done × Q (scene tree loads b.settings outside last.0) last.1)
   begun_of Q first m others done last split zip of =

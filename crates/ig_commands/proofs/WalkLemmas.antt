@@ -1,164 +1,152 @@
--- The walk of a list.
-use Rattle.std.proofs.Common.{◌≡◌, ◌≢◌, ◌⊎◌, ◌≤◌, All, Bool, List, [], ◌∷◌, ◌++◌, ℕ, None, Ok, Option, Result, Some, Err, map, string_bytes, true, false, ◌∙◌, refl, sym, ap, subst, inl, inr}
-use Rattle.std.proofs.lemmas.Cmp.{nat_list_cmp_total}
-use Rattle.std.proofs.lemmas.List.Elements.{All-head, All-tail}
-use Rattle.std.proofs.lemmas.List.MinMax.{ranks_by}
-use Rattle.std.specs.Cmp.Lexicographic.{slice_cmp}
-use Rattle.std.specs.List.{AllZip}
-use Rattle.std.specs.Ordering.{nat_cmp}
-use Rattle.ignore_base.specs.Problem.{Problem, io, memory}
-use Rattle.ignore_base.specs.Text.{Path}
-use Rattle.ignore_base.specs.declared.fault.Fault.TheVariants.{StepLimit}
-use Rattle.ignore_dir.specs.Load.{AreLoads, Loaded}
-use Rattle.ignore_dir.specs.declared.outside.Outside.{Outside}
-use Rattle.ignore_dir.specs.declared.settings.Settings.{Settings}
-use Rattle.ignore_files.specs.Gives.{IsHonest}
-use Rattle.ignore_files.specs.Tree.{Tree}
+-- A walk whose owner answers as if there were no closures, as one without closures.
+use Rattle.std.proofs.Common.{◌≡◌, List, [], ◌∷◌, ℕ, None, Option, Result, Some, true, inl, inr, map, option_map, refl, sym, ap, subst, ◌∙◌}
+use Rattle.std.specs.Iterator.{Yields, YieldsThen}
+use Rattle.ignore_base.specs.declared.error.Error.{Error}
 use Rattle.ignore_files.specs.declared.env.Env.{Env}
 use Rattle.ignore_files.specs.declared.files.Files.{Ghosts as Files}
-use Rattle.ignore_files.specs.declared.types.Contents.{Contents}
-use Rattle.ignore_files.specs.declared.types.Refusal.{Refusal}
-use Rattle.ignore_rules.specs.Rules.{Ruleset}
-use Rattle.ignore_walk.proofs.EndLemmas.{whole_finished}
-use Rattle.ignore_walk.specs.Below.{KeepsBelow}
-use Rattle.ignore_walk.specs.Entry.{Item}
-use Rattle.ignore_walk.specs.Finished.{IsEnd, IsFinished}
-use Rattle.ignore_walk.specs.GoesOn.{GoesOn, is_fatal}
-use Rattle.ignore_walk.specs.Paces.{work_at, work_of}
-use Rattle.ignore_walk.specs.Runs.{EndsLast, IsRun}
+use Rattle.ignore_walk.specs.Entry.{Item, item_of}
+use Rattle.ignore_walk.specs.Left.{State}
+use Rattle.ignore_walk.specs.Nexts.{EndsOrGoesOn, NextGives, Nexts, Shows}
 use Rattle.ignore_walk.specs.Scene.{Scene}
-use Rattle.ignore_walk.specs.Suits.{Suits, order_by}
-use Rattle.ignore_walk.specs.Whole.{Whole}
+use Rattle.ignore_walk.specs.Suits.{IsGroundOf}
 use Rattle.ignore_walk.specs.declared.callbacks.Callbacks.{Ghosts as Callbacks}
-use Rattle.ignore_walk.specs.declared.callbacks.Options.{Options as Chosen}
 use Rattle.ignore_walk.specs.declared.callbacks.Order.{Order}
+use Rattle.ignore_walk.specs.declared.callbacks.Order.TheVariants.{Listed}
+use Rattle.ignore_walk.specs.declared.entry.DirEntry.{DirEntry}
 use Rattle.ignore_walk.specs.declared.ground.Ground.{Ground}
 use Rattle.ignore_walk.specs.declared.walk.Walk.{Walk}
-use Rattle.ignore.specs.Asked.{IsGlobalByIf, IsOutsideBy, base_dir}
-use Rattle.ignore.specs.Closures.{options_of}
+use Rattle.ignore.specs.Closures.{IsBare, no_closures, options_of, order_of}
+use Rattle.ignore.specs.Walks.{GoesBy}
 use Rattle.ignore.specs.declared.options.WalkOptions.{WalkOptions}
-use Rattle.commands.proofs.WalkLemmas.{within}
-use Rattle.commands.specs.Walking.{IsTrimmed}
-use Rattle.commands.specs.declared.by_name.ByName.{ByName}
-use Rattle.ig_options.specs.Settings.{most_steps}
-use Rattle.ig_options.specs.declared.options.Options.{Options}
-use Rattle.ig_commands.specs.Listing.{AreAll, AreCut, listing}
-use Rattle.ig_commands.specs.Walked.{IsFor, IsWalkOf, at_roots}
+use Rattle.ignore.specs.declared.walk.Walk.{Walk as Built}
+use Rattle.ig_commands.specs.Walked.{HasYielded}
 
--- a view of files, and an owner that lets each entry pass and compares as texts do, suit a list
-pub suits_listing : {F S : Type 0} (files : Files F) (calls : Callbacks S) (f : F) (owner : S) (chosen : Chosen) (tree : Tree)
-    (loads : List ℕ → Loaded) (s : Settings) (o : Outside) (options : Options) (b : WalkOptions) → IsHonest files f tree
-    → AreLoads tree b.settings loads → s ≡ b.settings → chosen.same_file_system ≡ options.one_file_system → chosen.order ≡ options.order
-    → calls.filters owner (λ _. true) → calls.compares owner (slice_cmp nat_cmp)
-    → Suits files calls f owner s o chosen (listing options b tree loads o)
-suits_listing files calls f owner chosen tree loads s o options b honest are is device order filters compares = record {
-  honest = honest;
-  loads = are;
-  settings = sym is;
-  outside = refl;
-  device = sym device;
-  filter = filters;
-  order = (
-    slice_cmp nat_cmp,
-    compares,
-    ranks_by nat_list_cmp_total (λ name. name),
-    ap (λ (kind : Order). order_by kind (slice_cmp nat_cmp)) (sym order),
-  );
-}
+-- where no comparison is set, none is asked for an order
+pub unordered : {X : Type 0} (order : X → Order) (sorter : Option X) → sorter ≡ None → order_of order sorter ≡ Listed
+unordered {X} order sorter none = ap (λ (s : Option X). order_of order s) none
 
--- an item after which a walk goes on ends none
-not_end : (item : Item) → GoesOn item → IsEnd item → ⊥
-not_end (Ok e) on (inl m) = cc m
-not_end (Ok e) on (inr l) = cc l
-not_end (Err p) on (inl m) =
-    let is : p ≡ memory = cc m in
-    let fatal = subst (λ (q : Problem). is_fatal q ≡ false) is on in cc fatal
-not_end (Err p) on (inr l) =
-    let is : p ≡ io StepLimit = cc l in
-    let fatal = subst (λ (q : Problem). is_fatal q ≡ false) is on in cc fatal
+-- the same ground, and the same walk, without an owner
+abbrev bare_ground : {F S : Type 0} → Ground F S → Ground F (Unit {0})
+bare_ground g =
+    record {
+      alloc = g.alloc;
+      files = g.files;
+      owner = tt;
+      settings = g.settings;
+      outside = g.outside;
+      options = g.options;
+    }
 
--- a run that out of memory didn't end was finished, or cut by the limit
-finished_or_cut : (all : List Item) → EndsLast all → All (λ (item : Item). item ≢ Err memory) all
-    → IsFinished all ⊎ ((front : List Item) × (all ≡ front ++ Err (io StepLimit) ∷ []))
-finished_or_cut [] h enough = inl tt
-finished_or_cut (item ∷ []) (inl on) enough = inl (not_end item on, tt)
-finished_or_cut (item ∷ []) (inr (inl m)) enough = absurd (All-head (λ (i : Item). i ≢ Err memory) item [] enough m)
-finished_or_cut (item ∷ []) (inr (inr limit)) enough = inr ([], ap (λ (i : Item). i ∷ []) limit)
-finished_or_cut (item ∷ (next ∷ items)) h enough =
-    elim (finished_or_cut (next ∷ items) h.1 (All-tail (λ (i : Item). i ≢ Err memory) item (next ∷ items) enough)) [
-      | inl done ↦ inl (not_end item h.0, done)
-      | inr (front, is) ↦ inr (item ∷ front, ap (λ xs. item ∷ xs) is)
-    ]
+abbrev pub bare : {F S : Type 0} → Walk F S → Walk F (Unit {0})
+bare w = record { ground = bare_ground w.ground; stack = w.stack; left = w.left; ended = w.ended }
 
--- no list that was cut is a finished one
-not_finished : (front : List Item) → IsFinished (front ++ Err (io StepLimit) ∷ []) → ⊥
-not_finished [] done = done.0 (inr refl)
-not_finished (item ∷ front) done = not_finished front done.1
+module _ {F S : Type 0} (files : Files F) (calls : Callbacks S) where
+  -- a scene of one is one of the other
+  owned : (g : Ground F S) (s : Scene) → IsBare calls g.owner → IsGroundOf files no_closures (bare_ground g) s → IsGroundOf files calls g s
+  owned g s is h = record {
+    honest = h.honest;
+    loads = h.loads;
+    settings = h.settings;
+    outside = h.outside;
+    device = h.device;
+    filter = (is.passes s.keep).1 h.filter;
+    order = (h.order.0, (is.compares h.order.0).1 h.order.1, h.order.2, h.order.3);
+  }
 
--- what such a run has yielded
-pub listed : (g : Scene) (roots : List (List ℕ)) (all : List Item) (left : ℕ) → AreLoads g.tree g.settings g.loads → left ≡ most_steps
-    → All (λ (item : Item). item ≢ Err memory) all → EndsLast all
-    → (IsFinished all → (n : ℕ) × (n ≤ left) × Whole g roots all n)
-    → ((items : List Item) (n : ℕ) → Whole g roots items n → IsRun all items left n) → AreAll g roots all ⊎ AreCut g roots all
-listed g roots all left are limit enough ends done run =
-    elim (finished_or_cut all ends enough) [
-      | inl finished ↦
-          let w = done finished in
-          inl (w.0, subst (λ (l : ℕ). w.0 ≤ l) limit w.1, w.2)
-      | inr cut ↦ inr (
-        cut,
-        λ items n whole.
-            elim (within all items left n limit enough (run items n whole)) [
-              | inl h ↦
-                  absurd (not_finished cut.0
-                  (subst IsFinished (sym h.1 ∙ cut.1) (whole_finished g roots items n are whole)))
-              | inr h ↦ h
-            ],
-      )
-    ]
+  unowned : (g : Ground F S) (s : Scene) → IsBare calls g.owner → IsGroundOf files calls g s → IsGroundOf files no_closures (bare_ground g) s
+  unowned g s is h = record {
+    honest = h.honest;
+    loads = h.loads;
+    settings = h.settings;
+    outside = h.outside;
+    device = h.device;
+    filter = (is.passes s.keep).0 h.filter;
+    order = (h.order.0, (is.compares h.order.0).0 h.order.1, h.order.2, h.order.3);
+  }
 
--- The same over any files.
+  nexts : (s : Scene) (a b : Walk F S) (answer : Option Item) (items : List Item) (n : ℕ) → IsBare calls b.ground.owner
+      → Nexts files calls s a answer b items n → Nexts files no_closures s (bare a) answer (bare b) items n
+  nexts s a b None items n is h = h
+  nexts s a b (Some item) items n is (inl h) = inl record {
+    others = h.others;
+    k = h.k;
+    are = h.are;
+    rest = record { suits = unowned b.ground s is h.rest.suits; goes_on = h.rest.goes_on; stands = h.rest.stands };
+    taken = h.taken;
+  }
+  nexts s a b (Some item) items n is (inr h) = inr h
 
--- the settings of a list besides those of its directories
-abbrev pub chosen : Options → Chosen
-chosen o = record { order = o.order; same_file_system = o.one_file_system; limit = most_steps }
+  still : (a b : Walk F S) (answer : Option Item) → IsBare calls a.ground.owner → NextGives files calls a answer b → IsBare calls b.ground.owner
+  still a b answer is h = subst (λ (g : Ground F S). IsBare calls g.owner) (sym h.paced.ground) is
 
-chosen_by : (o : Options) (b : WalkOptions) → IsFor o b → chosen o ≡ options_of b o.order
-chosen_by o b so =
-    ap (λ (d : Bool). let made : Chosen = record { order = o.order; same_file_system = d; limit = most_steps } in made) (sym so.device)
-    ∙ ap (λ (n : ℕ). let made : Chosen = record { order = o.order; same_file_system = b.same_file_system; limit = n } in made) (sym so.limit)
+  -- what one shows, the other does
+  shown : (s : Scene) (at : State) (left : ℕ) (answer : Option Item) (b : Walk F S) → Shows s at left answer b → Shows s at left answer (bare b)
+  shown s at left None b h = h
+  shown s at left (Some item) b (inl h) = inl h
+  shown s at left (Some item) b (inr h) = inr h
 
--- the rules of the global file don't depend on the roots
-global_at : (asked : Bool) (Gives : Path → Result Contents Refusal → Type 0) (b : WalkOptions) (roots : List Path) (dir : Option Path)
-    (rules : Ruleset) → IsGlobalByIf asked Gives b dir rules → IsGlobalByIf asked Gives (at_roots b roots) dir rules
-global_at false Gives b roots dir rules h = h
-global_at true Gives b roots None rules h = h
-global_at true Gives b roots (Some dir) rules h = h
+  -- and it goes on, or ends, as the other
+  goes_on : (answer : Option Item) (b : Walk F S) → EndsOrGoesOn answer b → EndsOrGoesOn answer (bare b)
+  goes_on None b h = h
+  goes_on (Some item) b (inl h) = inl h
+  goes_on (Some item) b (inr h) = inr h
 
--- a walk over this ground is one of the options
-pub is_walk_of : {F : Type 0} (files : Files F) (f : F) (env : Env) (o : Options) (b : WalkOptions) (roots : List (List ℕ))
-    (ground : Ground F ByName) (w : Walk F ByName) → AllZip IsTrimmed (map string_bytes o.roots.items) roots → w.ground ≡ ground
-    → ground.files.now ≡ f → ground.settings ≡ b.settings → ground.options ≡ chosen o
-    → IsOutsideBy (files.contents_gives f) env b ground.outside → work_of w.stack ≡ work_at roots → KeepsBelow roots w.stack
-    → w.left ≡ most_steps → IsFor o b → IsWalkOf files f env o b w
-is_walk_of {F} files f env o b roots ground w trimmed is over settings options by begins below limit so = record {
-  roots = roots;
-  trimmed = trimmed;
-  owner = w.ground.owner;
-  goes_by = record {
-    over = ap (λ (g : Ground F ByName). g.files.now) is ∙ over;
-    closures = refl;
-    settings = ap (λ (g : Ground F ByName). g.settings) is ∙ settings;
-    options = ap (λ (g : Ground F ByName). g.options) is ∙ (options ∙ chosen_by o b so);
-    outside = subst (λ (g : Ground F ByName). IsOutsideBy (files.contents_gives f) env (at_roots b roots) g.outside) (sym is)
-        record {
-          overrides = by.overrides;
-          types = by.types;
-          explicit = by.explicit;
-          global = global_at b.settings.git_global (files.contents_gives f) b roots (base_dir b env) ground.outside.global by.global;
+  next : (a b : Walk F S) (answer : Option Item) → IsBare calls a.ground.owner → NextGives files calls a answer b
+      → NextGives files no_closures (bare a) answer (bare b)
+  next a b answer is h = record {
+    given = λ s items n r.
+        nexts s a b answer items n (still a b answer is h)
+        (h.given s items n (record { suits = owned a.ground s is r.suits; goes_on = r.goes_on; stands = r.stands }));
+    shows = λ s root place seen suits begun at. shown s _ a.left answer b (h.shows s root place seen (owned a.ground s is suits) begun at);
+    over = h.over;
+    none = h.none;
+    last = h.last;
+    paced = record { ground = ap bare_ground h.paced.ground; paced = h.paced.paced; limited = h.paced.limited };
+    ends = λ none. (let e = h.ends none in (e.0, goes_on answer b e.1));
+    below = h.below;
+  }
+
+  yields : (a t : Walk F S) (xs : List (Result DirEntry Error)) → IsBare calls a.ground.owner
+      → Yields (λ old given new. NextGives files calls old (option_map item_of given) new) a xs t
+      → Yields (λ old given new. NextGives files no_closures old (option_map item_of given) new) (bare a) xs (bare t)
+      × IsBare calls t.ground.owner
+  yields a t [] is y = (ap bare y, subst (λ (w : Walk F S). IsBare calls w.ground.owner) y is)
+  yields a t (x ∷ xs) is (j, s, y) =
+      let rest = yields j t xs (still a j (Some (item_of x)) is s) y in
+      ((bare j, next a j (Some (item_of x)) is s, rest.0), rest.1)
+
+  -- calls of a walk of a builder are calls of what it keeps
+  built : (a t : Built F S) (xs : List (Result DirEntry Error))
+      → Yields (λ old given new. NextGives files calls old.inner (option_map item_of given) new.inner) a xs t
+      → Yields (λ old given new. NextGives files calls old (option_map item_of given) new) a.inner xs t.inner
+  built a t [] y = ap (λ (x : Built F S). x.inner) y
+  built a t (x ∷ xs) (j, s, y) = (j.inner, s, built j t xs y)
+
+  -- what a walk of a builder has yielded is what one without closures has
+  pub yielded : (f : F) (owner : S) (env : Env) (b : WalkOptions) (order : Order) (w v : Built F S) (all : List (Result DirEntry Error))
+      (answer : Option (Result DirEntry Error)) → IsBare calls owner → order ≡ Listed → GoesBy files f owner env b order w.inner
+      → w.inner.left ≡ b.limit
+      → YieldsThen (λ old given new. NextGives files calls old.inner (option_map item_of given) new.inner) w all answer v
+      → HasYielded files f env b (map item_of all) answer
+  yielded f owner env b order w v all answer is plain by limit (t, y, last) =
+      let owns = subst (λ (o : S). IsBare calls o) (sym by.closures) is in
+      let before = yields w.inner t.inner all owns (built w t all y) in
+      record {
+        walk = bare w.inner;
+        is_walk = record {
+          goes_by = record {
+            over = by.over;
+            closures = refl;
+            settings = by.settings;
+            options = by.options ∙ ap (options_of b) plain;
+            outside = by.outside;
+            roots = by.roots;
+            below = by.below;
+          };
+          limit = limit;
         };
-    roots = begins;
-    below = below;
-  };
-  limit = limit ∙ sym so.limit;
-}
+        all = all;
+        left = bare v.inner;
+        yields = (bare t.inner, before.0, next t.inner v.inner (option_map item_of answer) before.1 last);
+        are = refl;
+      }

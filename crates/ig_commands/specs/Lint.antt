@@ -1,7 +1,8 @@
 -- What `lint` writes: what is wrong with files of rules.
-use Rattle.std.specs.Prelude.{◌≡◌, ◌⊎◌, ◌||◌, ◌==◌, ℕ, Bool, true, false, not, List, [], ◌∷◌, ◌++◌, codes, is_some, length, Option, None, Some, Ok, Err}
+use Rattle.std.specs.Prelude.{◌≡◌, ◌≢◌, ◌⊎◌, ◌||◌, ◌==◌, ℕ, Bool, Contains, true, false, not, List, [], ◌∷◌, ◌++◌, codes, is_some, length, nat_lt, Option, None, Some, Ok, Err}
 use Rattle.std.specs.Prelude.{if◌then◌else◌, ⊤}
 use Rattle.std.specs.Fmt.{decimal}
+use Rattle.std.specs.Io.KnownBytes.{Appends}
 use Rattle.std.specs.List.{AllZip, flat_map, list_any}
 use Rattle.ignore_base.specs.Faults.{fault_text}
 use Rattle.ignore_base.specs.Problem.{Problem}
@@ -28,6 +29,7 @@ use Rattle.ig_commands.specs.Form.{at_end, between, field}
 use Rattle.ig_commands.specs.Listing.{RefusesOptions}
 use Rattle.ig_commands.specs.Reports.{report_line}
 use Rattle.ig_commands.specs.Sides.{how_read}
+use Rattle.ig_commands.specs.declared.names.Unnamed.{Unnamed}
 
 -- what separates the fields after the number of a line
 abbrev pub after_line : Bool → Bytes
@@ -95,6 +97,11 @@ abbrev pub is_found : Look → Bool
 is_found (unread path fault) = false
 is_found (looked path fault l told) = not (length l.lines.items == 0) || list_any is_some told
 
+-- the file has rules, or it isn't known which are dead
+abbrev pub has_rules : Look → Bool
+has_rules (unread path fault) = false
+has_rules (looked path fault l told) = not (length l.verdicts.rules.items == 0) || is_some l.verdicts.refused
+
 -- the status: 2 where something was reported, else 1 where something is wrong, and else 0
 abbrev pub lint_status : Bool → Bool → ℕ
 lint_status reported found = if reported then 2 else if found then 1 else 0
@@ -104,25 +111,29 @@ abbrev pub IsInFolders : Wrong → Type 0
 IsInFolders (InFolders folder line) = ⊤
 IsInFolders _ = ⊥
 
--- this is told of what is wrong with a rule: that; or nothing, where it decides in ignored folders alone,
--- since another file may re-include the folder. Which do isn't stated
-abbrev pub IsTold : Option Diagnostic → Option Diagnostic → Type 0
-IsTold None told = told ≡ None
-IsTold (Some d) None = IsInFolders d.wrong
-IsTold (Some d) (Some e) = e ≡ d
+-- of these files there is another than the one at a path
+abbrev pub HasOther : List Path → Path → Type 0
+HasOther files path = (other : Path) × Contains files other × (other ≢ path)
+
+-- this is told of what is wrong with a rule of one of these files: that; or nothing, where it decides in
+-- ignored folders alone, since another of the files may re-include the folder. Which does isn't stated
+abbrev pub IsTold : List Path → Path → Option Diagnostic → Option Diagnostic → Type 0
+IsTold files path None told = told ≡ None
+IsTold files path (Some d) None = IsInFolders d.wrong × HasOther files path
+IsTold files path (Some d) (Some e) = e ≡ d
 
 -- notes are asked for only where they may be
 abbrev pub MayNote : Bool → Bool → Type 0
 MayNote true has_notes = ⊤
 MayNote false has_notes = has_notes ≡ false
 
--- this was found of the file at a path of a tree
-abbrev pub IsLook : Tree → Options → Bool → Path → Look → Type 0
-IsLook tree o may_note path (unread p fault) = (p ≡ path) × (tree.contents path ≡ Err fault)
-IsLook tree o may_note path (looked p fault l told) =
+-- this was found of the file at a path of a tree, one of these files
+abbrev pub IsLook : Tree → Options → List Path → Bool → Path → Look → Type 0
+IsLook tree o files may_note path (unread p fault) = (p ≡ path) × (tree.contents path ≡ Err fault)
+IsLook tree o files may_note path (looked p fault l told) =
     (p ≡ path) × ((contents : Contents) × (tree.contents path ≡ Ok contents) × (fault ≡ contents.fault)
     × ((has_notes : Bool) × MayNote may_note has_notes × IsLinted (how_read o) path contents.bytes has_notes l)
-    × AllZip IsTold l.verdicts.rules.items told)
+    × AllZip (IsTold files path) l.verdicts.rules.items told)
 
 -- what was found of some files was written and reported
 pub record WritesLooks (o : Options) (json any : Bool) (looks : List Look) (status : ℕ) (out : Bytes → Type 0) : Type 0 where
@@ -144,14 +155,34 @@ given_paths o = flat_map given_path o.paths.items
 abbrev pub LintsGiven : {F : Type 0} → Files F → F → Options → Bool → ℕ → (Bytes → Type 0) → (Bytes → Type 0) → Type 0
 LintsGiven files f o json status out err =
     (looks : List Look) × WritesLooks o json false looks status out × err (flat_map look_report looks)
-    × ((tree : Tree) → IsHonest files f tree → AllZip (IsLook tree o false) (given_paths o) looks)
+    × ((tree : Tree) → IsHonest files f tree → AllZip (IsLook tree o (given_paths o) false) (given_paths o) looks)
 
--- some files were looked at; something may have been reported while they were sought. Which these are
--- isn't stated, nor what was reported; or the options are rejected
+-- some files were looked at: those that lie elsewhere, without notes; then those that were met, with notes
+-- only where none of the former has rules. Which these are isn't stated
+pub record LooksMet (tree : Tree) (o : Options) (above below : List Path) (first rest : List Look) : Type 0 where
+  pub elsewhere : AllZip (IsLook tree o (above ++ below) false) above first
+  pub met : AllZip (IsLook tree o (above ++ below) (not (list_any has_rules first))) below rest
+
+-- what was reported while files were sought, whose reports were counted: nothing where there were none
+abbrev pub IsCounted : ℕ → (Bytes → Type 0) → Type 0
+IsCounted reports err = (told : Bytes) × err told × (reports ≡ 0 → told ≡ [])
+
+-- a count of all reports so far is one of them and of those that were added
+abbrev pub StillCounts : ℕ → Option Bytes → ℕ → Option Bytes → Type 0
+StillCounts old before new now = (start : Option Bytes) → IsCounted old (Appends start before) → IsCounted new (Appends start now)
+
+-- the same, as long as names are counted that are told later: there are none where nothing was reported
+abbrev pub CountsSoFar : ℕ → Option Unnamed → Option Bytes → Option Bytes → Type 0
+CountsSoFar reports names start now = (told : Bytes) × Appends start now told × (reports ≡ 0 → (told ≡ []) × (names ≡ None))
+
+-- so it was, after what was reported while they were sought, which counts for the status; or the options
+-- are rejected
 abbrev pub LintsMet : {F : Type 0} → Files F → F → Env → Options → Draft → Bool → ℕ → (Bytes → Type 0) → (Bytes → Type 0) → Type 0
 LintsMet files f env o first json status out err =
-    ((paths : List Path) × (looks : List Look) × (any : Bool) × WritesLooks o json any looks status out
-    × ((tree : Tree) → IsHonest files f tree → AllZip (IsLook tree o true) paths looks))
+    ((above : List Path) × (below : List Path) × (first : List Look) × (rest : List Look) × (reports : ℕ)
+    × WritesLooks o json (nat_lt 0 reports) (first ++ rest) status out
+    × IsCounted reports (λ told. err (told ++ flat_map look_report (first ++ rest)))
+    × ((tree : Tree) → IsHonest files f tree → LooksMet tree o above below first rest))
     ⊎ ((problem : Problem) × RefusesOptions env o first problem × (status ≡ 2) × out [] × err (report_line problem))
 
 -- without files that are given some were met; else those were looked at

@@ -1,14 +1,9 @@
 -- What a list writes: the items of the walk that its options ask for.
-use Rattle.std.specs.Prelude.{◌≡◌, ◌≢◌, ◌⊎◌, ◌<◌, ◌≤◌, ℕ, ◌+◌, true, ◌++◌, ◌∷◌, [], List, All, Option, Err, map, string_bytes}
+use Rattle.std.specs.Prelude.{◌≡◌, ◌≢◌, ◌⊎◌, ℕ, ◌+◌, ◌++◌, [], List, All, None, Option, Err, map, string_bytes}
 use Rattle.std.specs.Prelude.{unwrap_or, if◌then◌else◌}
-use Rattle.std.specs.Cmp.Lexicographic.{slice_cmp}
-use Rattle.std.specs.List.{AllZip, flat_map}
-use Rattle.std.specs.Ordering.{nat_cmp}
+use Rattle.std.specs.List.{flat_map}
 use Rattle.ignore_base.specs.Text.{Bytes, Path}
-use Rattle.ignore_base.specs.Problem.{Problem, io, memory}
-use Rattle.ignore_base.specs.declared.fault.Fault.TheVariants.{StepLimit}
-use Rattle.ignore_dir.specs.Load.{AreLoads, Loaded}
-use Rattle.ignore_dir.specs.declared.outside.Outside.{Outside}
+use Rattle.ignore_base.specs.Problem.{Problem, memory}
 use Rattle.ignore_files.specs.Gives.{IsHonest}
 use Rattle.ignore_files.specs.Tree.{Tree}
 use Rattle.ignore_files.specs.declared.files.Files.{Ghosts as Files}
@@ -18,20 +13,13 @@ use Rattle.ignore_types.specs.Building.{IsBuilt}
 use Rattle.ignore_types.specs.TypeMatch.{Matcher}
 use Rattle.ignore_types.specs.Types.{Draft}
 use Rattle.ignore_walk.specs.Entry.{Item}
-use Rattle.ignore_walk.specs.Nexts.{Remaining, Starts}
-use Rattle.ignore_walk.specs.Scene.{Scene}
-use Rattle.ignore_walk.specs.Suits.{order_by}
-use Rattle.ignore_walk.specs.Whole.{Whole}
-use Rattle.ignore_walk.specs.declared.callbacks.Callbacks.{Ghosts as Callbacks}
-use Rattle.ignore_walk.specs.declared.walk.Walk.{Walk}
-use Rattle.ignore.specs.Asked.{IsOutside}
 use Rattle.ignore.specs.Builder.{with_overrides, with_types}
 use Rattle.ignore.specs.declared.options.WalkOptions.{WalkOptions}
-use Rattle.commands.specs.Walking.{IsCut, IsTrimmed}
+use Rattle.commands.specs.Walking.{AreBegun, AreListed, HasRoots}
 use Rattle.ig_options.specs.Choices.{IsDraft, RefusesTypes}
 use Rattle.ig_options.specs.Files.{AddsFiles, AddsFilesBy, named_files}
 use Rattle.ig_options.specs.Globs.{AreGlobs, RefusesOneOf}
-use Rattle.ig_options.specs.Settings.{most_steps, walk_options}
+use Rattle.ig_options.specs.Settings.{walk_options}
 use Rattle.ig_options.specs.declared.options.Options.{Options}
 use Rattle.ig_commands.specs.Counts.{capped, counted, stats_line, status_of}
 use Rattle.ig_commands.specs.Reports.{is_known, is_reported, report_line, report_of, first_reports, whole_reports}
@@ -78,61 +66,22 @@ pub record IsAskedBy {F : Type 0} (files : Files F) (f : F) (env : Env) (o : Opt
 abbrev pub RefusesOptions : Env → Options → Draft → Problem → Type 0
 RefusesOptions env o first problem = RefusesOneOf o (base_of env) problem ⊎ RefusesTypes o first problem
 
--- what the walk of a list is a walk of: a tree with the loads of its directories, these settings,
--- these rules from outside, the devices that are asked for, each entry, and the names of a directory
--- in the order that is asked for, which compares texts
-abbrev pub listing : Options → WalkOptions → Tree → (Path → Loaded) → Outside → Scene
-listing o b tree loads outside =
-    record {
-      tree = tree;
-      loads = loads;
-      settings = b.settings;
-      outside = outside;
-      same_file_system = o.one_file_system;
-      keep = λ _. true;
-      order = order_by o.order (slice_cmp nat_cmp);
-    }
+-- these items are all of the walk that is asked for, of the roots that are: by these settings over any
+-- files, and with the headline, or cut by the limit
+abbrev pub AreListedOf : {F : Type 0} → Files F → F → Env → Options → WalkOptions → List Item → Type 0
+AreListedOf files f env o b items =
+    (c : WalkOptions) × HasRoots (map string_bytes o.roots.items) b c × AreWalked files f env c items × AreListed files f env c items
 
--- these rules from outside, and these roots, which are those that are asked for without the slashes
--- at their ends, are what a list goes by
-pub record GoesBy (tree : Tree) (env : Env) (o : Options) (b : WalkOptions) (roots : List Path) (outside : Outside) : Type 0 where
-  pub trimmed : AllZip IsTrimmed (map string_bytes o.roots.items) roots
-  pub read : IsOutside tree env b outside
+-- these items are a beginning of those, or there are none yet
+abbrev pub AreBegunOf : {F : Type 0} → Files F → F → Env → Options → WalkOptions → List Item → Type 0
+AreBegunOf files f env o b items =
+    (items ≡ [])
+    ⊎ ((c : WalkOptions) × HasRoots (map string_bytes o.roots.items) b c × AreFirstWalked files f env c items
+    × AreBegun files f env c items None)
 
--- a walk begins at roots: what remains of it is what they give
-pub record Begins {F S : Type 0} (files : Files F) (calls : Callbacks S) (g : Scene) (w : Walk F S) (roots : List Path) : Type 0 where
-  pub starts : Starts files calls g w roots
-  pub whole : (items : List Item) (n : ℕ) → Whole g roots items n → Remaining files calls g w items n
-
--- these are what roots give, in no more steps than the limit
-abbrev pub AreAll : Scene → List Path → List Item → Type 0
-AreAll g roots all = (n : ℕ) × (n ≤ most_steps) × Whole g roots all n
-
--- the last of these is the error of the limit; before it they are a beginning of what the roots give,
--- if that is a list, and that takes more steps than the limit
-abbrev pub AreCut : Scene → List Path → List Item → Type 0
-AreCut g roots all =
-    ((front : List Item) × (all ≡ front ++ Err (io StepLimit) ∷ []))
-    × ((items : List Item) (n : ℕ) → Whole g roots items n → (most_steps < n) × IsCut all items)
-
--- these are the items of the walk that is asked for, by these settings in the bare tree: there are
--- rules from outside, as they were read, by which the roots give them; or they were cut by the limit
-abbrev pub AreListed : Tree → Env → Options → WalkOptions → List Item → Type 0
-AreListed tree env o b all =
-    (roots : List Path) × (outside : Outside) × GoesBy tree env o b roots outside
-    × ((loads : Path → Loaded) → AreLoads tree b.settings loads
-    → AreAll (listing o b tree loads outside) roots all ⊎ AreCut (listing o b tree loads outside) roots all)
-
--- these are a beginning of the items of that walk, or none
-abbrev pub AreBegun : Tree → Env → Options → WalkOptions → List Item → Type 0
-AreBegun tree env o b all =
-    (all ≡ []) ⊎ ((roots : List Path) × (outside : Outside) × GoesBy tree env o b roots outside
-    × ((loads : Path → Loaded) (items : List Item) (n : ℕ) → AreLoads tree b.settings loads
-    → Whole (listing o b tree loads outside) roots items n → (rest : List Item) × (items ≡ all ++ rest)))
-
--- these are the first of those items, or all of them
-abbrev pub AreFirst : Tree → Env → Options → WalkOptions → List Item → Type 0
-AreFirst tree env o b all = AreBegun tree env o b all ⊎ AreListed tree env o b all
+-- these items are the first of those, or all of them
+abbrev pub AreFirstOf : {F : Type 0} → Files F → F → Env → Options → WalkOptions → List Item → Type 0
+AreFirstOf files f env o b items = AreBegunOf files f env o b items ⊎ AreListedOf files f env o b items
 
 -- how many of some items are reported, and how many are entries that are listed
 abbrev pub reported_in : Options → List Item → ℕ
@@ -171,14 +120,14 @@ pub record Lists (o : Options) (problems : List (Option Problem)) (items : List 
   pub ends : status ≡ status_of (all_reported o problems items) (found_in o items)
   pub enough : All (λ item. item ≢ Err memory) items
 
--- a list has written its whole list: over any files all that a walk by the settings yields that the
--- options ask for, and in each tree that the files are consistent with the items of that walk; or the
--- options are rejected, nothing was written, their problem was reported, and the status is 2
+-- a list has written its whole list: all of the walk by the settings that the options ask for, which
+-- in each tree that the files are consistent with go by the files that are named there; or the options
+-- are rejected, nothing was written, their problem was reported, and the status is 2
 abbrev pub ListsAsked : {F : Type 0} → Files F → F → Env → Options → Draft → ℕ → (Bytes → Type 0) → (Bytes → Type 0) → Type 0
 ListsAsked files f env o first status out err =
     ((b : WalkOptions) × (problems : List (Option Problem)) × (items : List Item) × Lists o problems items status out err
-    × IsAskedBy files f env o first b × AreWalked files f env o b items
-    × ((tree : Tree) → IsHonest files f tree → IsAsked tree env o first b problems × AreListed tree env o b items))
+    × IsAskedBy files f env o first b × AreListedOf files f env o b items
+    × ((tree : Tree) → IsHonest files f tree → IsAsked tree env o first b problems))
     ⊎ ((problem : Problem) × RefusesOptions env o first problem × (status ≡ 2) × out [] × err (report_line problem))
 
 -- a list ended early, after it wrote and reported a beginning of that; or before it began
@@ -186,6 +135,6 @@ abbrev pub EndsAsked : {F : Type 0} → Files F → F → Env → Options → Dr
 EndsAsked files f env o first out err stop =
     ((b : WalkOptions) × (problems : List (Option Problem)) × (items : List Item)
     × EndsAfter (flat_map (lines_of o) items) (begun_reports o problems items) out err stop
-    × IsAskedBy files f env o first b × AreFirstWalked files f env o b items
-    × ((tree : Tree) → IsHonest files f tree → IsAsked tree env o first b problems × AreFirst tree env o b items))
+    × IsAskedBy files f env o first b × AreFirstOf files f env o b items
+    × ((tree : Tree) → IsHonest files f tree → IsAsked tree env o first b problems))
     ⊎ EndsAfter [] [] out err stop

@@ -1,6 +1,7 @@
 -- What a run of the program does.
 use Rattle.std.specs.Prelude.{◌≡◌, ◌⊎◌, ℕ, Bool, false, true, [], Option, None, ⊤}
 use Rattle.std.specs.Io.KnownBytes.{Appends, Keeps}
+use Rattle.std.specs.declared.io.ErrorKind.{ErrorKind}
 use Rattle.ignore_base.specs.Problem.{Problem}
 use Rattle.ignore_base.specs.Text.{Bytes}
 use Rattle.ignore_files.specs.declared.env.Env.{Env}
@@ -16,7 +17,7 @@ use Rattle.ig_commands.specs.Lint.{LintAsked}
 use Rattle.ig_commands.specs.Listing.{EndsAsked, ListsAsked, RefusesOptions}
 use Rattle.ig_commands.specs.Reports.{report_line}
 use Rattle.ig_commands.specs.Same.{SameAsked, SameEnds}
-use Rattle.ig_commands.specs.Stops.{EndsAfter, IsUnwritten, reason, stop_status}
+use Rattle.ig_commands.specs.Stops.{EndsAfter, IsUnwritten, SaidBy, reason, stop_status}
 use Rattle.ig_commands.specs.Types.{ListsTypes}
 use Rattle.ig_commands.specs.Unused.{UnusedAsked, UnusedEnds}
 use Rattle.ig_commands.specs.Why.{InputAsked, InputEnds, WhyAsked, WhyEnds}
@@ -77,16 +78,17 @@ EndsTold true files f env o first task input out err stop =
 
 -- a run has this status, of what it did up to some contents of both writers: that which it did has
 -- this status, and nothing more is written and reported; or it ended early, or what is kept of the
--- output can't be written after it, and the reason is reported
+-- output can't be written after it, and the reason is reported, which the output said where it is that
+-- this can't be written: it fails by errors of these kinds
 pub data Finishes (Done : ℕ → (Bytes → Type 0) → (Bytes → Type 0) → Type 0) (Ended : (Bytes → Type 0) → (Bytes → Type 0) → Stop → Type 0)
-    (status : ℕ) (out now err told : Option Bytes) : Type 0 where
+    (fails : ErrorKind → Type 0) (status : ℕ) (out now err told : Option Bytes) : Type 0 where
   whole : (written : Option Bytes) → Done status (Appends out written) (Appends err told) → Keeps written now
-      → Finishes Done Ended status out now err told
+      → Finishes Done Ended fails status out now err told
   early : (written reported : Option Bytes) (stop : Stop) → Ended (Appends out written) (Appends err reported) stop → Keeps written now
-      → status ≡ stop_status stop → Appends reported told (reason stop) → Finishes Done Ended status out now err told
+      → status ≡ stop_status stop → Appends reported told (reason stop) → SaidBy fails stop → Finishes Done Ended fails status out now err told
   unwritten : (given : ℕ) (written reported : Option Bytes) (stop : Stop) → Done given (Appends out written) (Appends err reported)
       → IsUnwritten stop → Keeps written now → status ≡ stop_status stop → Appends reported told (reason stop)
-      → Finishes Done Ended status out now err told
+      → SaidBy fails stop → Finishes Done Ended fails status out now err told
 
 -- the parser of words had the last word: help or the version was written and nothing reported, or
 -- a mistake was reported and nothing written
@@ -104,8 +106,8 @@ types_at_first = with_defaults all_default_rows (record { definitions = []; choi
 -- a run did what one of the commands does, by some options, with all default types at first, and its
 -- time is asked for where these say so; or the parser of the words had the last word, or no command
 -- began. Which command and options words stand for isn't said
-abbrev pub Runs : {F : Type 0} → Files F → F → Env → Option Bytes → ℕ → Bool → (out now err told : Option Bytes) → Type 0
-Runs files f env input status is_timed out now err told =
+abbrev pub Runs : {F : Type 0} → Files F → F → Env → Option Bytes → (ErrorKind → Type 0) → ℕ → Bool → (out now err told : Option Bytes) → Type 0
+Runs files f env input fails status is_timed out now err told =
     ((task : Task) × (o : Options) × (is_timed ≡ o.stats)
-    × Finishes (DoesTold o.no_messages files f env o types_at_first task input) (EndsTold o.no_messages files f env o types_at_first task input) status out now err told)
-    ⊎ Finishes Shows EndsBefore status out now err told
+    × Finishes (DoesTold o.no_messages files f env o types_at_first task input) (EndsTold o.no_messages files f env o types_at_first task input) fails status out now err told)
+    ⊎ Finishes Shows EndsBefore fails status out now err told

@@ -1,5 +1,5 @@
 -- What `same` writes: whether two files of rules say the same of every path.
-use Rattle.std.specs.Prelude.{◌≡◌, ◌⊎◌, ◌||◌, ◌==◌, ℕ, Bool, true, false, not, List, [], ◌∷◌, ◌++◌, codes, length, Option, None, Some, IfSome, option_map, unwrap_or}
+use Rattle.std.specs.Prelude.{◌≡◌, ◌≢◌, ◌⊎◌, ◌||◌, ◌==◌, ℕ, Bool, true, false, not, List, [], ◌∷◌, ◌++◌, codes, length, Option, None, Some, IfSome, option_map, unwrap_or}
 use Rattle.std.specs.Prelude.{if◌then◌else◌}
 use Rattle.std.specs.List.{flat_map}
 use Rattle.ignore_base.specs.Problem.{Problem, problem_of, several, at_line, at_path, at_depth, loop, io, glob, unrecognized, invalid_definition}
@@ -124,10 +124,10 @@ refused_line o reason =
 abbrev pub Compares : Options → Option ℕ → Sides → ℕ → (Bytes → Type 0) → (Bytes → Type 0) → Type 0
 Compares o most sides status out err =
     (((is_unread sides.old || is_unread sides.new) ≡ true) × (status ≡ 2) × out [] × err (told o sides))
-    ⊎ ((((is_unread sides.old || is_unread sides.new) ≡ false)
-    × ((found : List Difference) × AreDifferences (wanted_by o most) sides.old.rules.rules sides.new.rules.rules found
-    × (status ≡ status_by (is_told o sides) (do_differ found)) × out (differences_text o sides found) × err (told o sides)))
-    ⊎ ((reason : Refused) × (status ≡ 2) × out [] × err (told o sides ++ refused_line o reason)))
+    ⊎ (((is_unread sides.old || is_unread sides.new) ≡ false)
+    × (((found : List Difference) × AreDifferences (wanted_by o most) sides.old.rules.rules sides.new.rules.rules found
+    × (status ≡ status_by (is_told o sides) (do_differ found)) × out (differences_text o sides found) × err (told o sides))
+    ⊎ ((reason : Refused) × (reason ≢ refused.Memory) × (status ≡ 2) × out [] × err (told o sides ++ refused_line o reason))))
 
 -- it ended early after what is wrong with both was reported, and after some of what they differ at was
 -- written, if anything

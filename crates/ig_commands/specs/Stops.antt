@@ -47,6 +47,23 @@ abbrev pub read_stop : ErrorKind → Stop
 read_stop OutOfMemory = Memory
 read_stop _ = Read
 
+-- where a command ends since its output can't be written, or nobody reads it, the output fails by an
+-- error of a kind that ends it so
+abbrev pub SaidBy : (ErrorKind → Type 0) → Stop → Type 0
+SaidBy fails Memory = ⊤
+SaidBy fails Read = ⊤
+SaidBy fails (Write why) = (kind : ErrorKind) × fails kind × (write_stop kind ≡ Write why)
+SaidBy fails Closed = (kind : ErrorKind) × fails kind × (write_stop kind ≡ Closed)
+SaidBy fails Silence = ⊤
+
+-- it isn't the output that ended it
+abbrev pub IsOther : Stop → Type 0
+IsOther Memory = ⊤
+IsOther Read = ⊤
+IsOther (Write why) = ⊥
+IsOther Closed = ⊥
+IsOther Silence = ⊤
+
 -- a command ended early, at one more thing to write, after these bytes were written and these
 -- reported: out of memory, with nothing more written or reported; by a failed write or a closed
 -- pipe, with nothing more reported; or by a report that can't be written

@@ -1,6 +1,6 @@
 -- What surveys of roots meet, and what is reported of it.
 use Rattle.std.specs.Prelude.{◌≡◌, ◌≢◌, ◌⊎◌, ◌≤◌, ℕ, ◌+◌, Bool, true, false, All, List, [], ◌∷◌, ◌++◌, length, map, string_bytes, Option, None, Some, option_map, Result, Ok, Err, if◌then◌else◌}
-use Rattle.std.specs.List.{flat_map}
+use Rattle.std.specs.List.{AllZip, flat_map}
 use Rattle.ignore_base.specs.Problem.{Problem, problem_of, several, at_line, at_path, at_depth, loop, io, glob, unrecognized, invalid_definition, memory}
 use Rattle.ignore_base.specs.Text.{Bytes, Path}
 use Rattle.ignore_base.specs.declared.error.Error.{Error}
@@ -22,11 +22,13 @@ use Rattle.ignore_survey.specs.Survey.{IsSurvey, Item}
 use Rattle.ignore_survey.specs.Surveyed.{entry_of}
 use Rattle.ignore_survey.specs.declared.surveyed.Surveyed.{Surveyed}
 use Rattle.ignore_types.specs.Types.{Draft}
+use Rattle.ignore.specs.Asked.{IsOutside}
 use Rattle.ignore.specs.Builder.{with_hidden}
 use Rattle.ignore.specs.declared.options.WalkOptions.{WalkOptions}
+use Rattle.commands.specs.Walking.{IsTrimmed}
 use Rattle.ig_options.specs.declared.options.Options.{Options}
 use Rattle.ig_commands.specs.Counts.{capped, counted}
-use Rattle.ig_commands.specs.Listing.{GoesBy, IsAsked}
+use Rattle.ig_commands.specs.Listing.{IsAsked}
 use Rattle.ig_commands.specs.Names.{names_told, still, told_at, told_before, with_name}
 use Rattle.ig_commands.specs.Reports.{is_bad_name, is_known, report_line, report_of, to_report}
 use Rattle.ig_commands.specs.declared.names.Unnamed.{Unnamed}
@@ -171,11 +173,17 @@ begun_told o (r ∷ (s ∷ more)) = told_in o r.1 ++ begun_told o (s ∷ more)
 abbrev pub wrong_in : Options → List (Option Problem) → List OfRoot → ℕ
 wrong_in o problems all = capped (counted 0 (map (is_wrong o) (all_seen all)) + counted 0 (map is_known problems))
 
+-- these rules from outside, and these roots, which are those that are asked for without the slashes
+-- at their ends, are what surveys go by
+pub record AreRootsBy (tree : Tree) (env : Env) (o : Options) (b : WalkOptions) (roots : List Path) (outside : Outside) : Type 0 where
+  pub trimmed : AllZip IsTrimmed (map string_bytes o.roots.items) roots
+  pub read : IsOutside tree env b outside
+
 -- these are the items of the survey of each root that is asked for, without the slashes at its end:
 -- by the settings of a walk, and by the rules from outside as they were read
 abbrev pub AreSurveys : Tree → Env → Options → WalkOptions → List OfRoot → Type 0
 AreSurveys tree env o b all =
-    (outside : Outside) × GoesBy tree env o b (map (λ r. r.0) all) outside
+    (outside : Outside) × AreRootsBy tree env o b (map (λ r. r.0) all) outside
     × ((loads : Path → Loaded) → AreLoads tree b.settings loads → All (λ r. IsWhole (scene tree loads b.settings outside r.0) r.1) all)
 
 -- these are the items of the first roots, and the first items of the one after them; or nothing was
@@ -183,7 +191,7 @@ AreSurveys tree env o b all =
 abbrev pub AreBegun : Tree → Env → Options → WalkOptions → List OfRoot → Type 0
 AreBegun tree env o b all =
     (all ≡ []) ⊎ ((done : List OfRoot) × (last : OfRoot) × (rest : List Path) × (all ≡ done ++ last ∷ [])
-    × (outside : Outside) × GoesBy tree env o b (map (λ r. r.0) done ++ last.0 ∷ rest) outside
+    × (outside : Outside) × AreRootsBy tree env o b (map (λ r. r.0) done ++ last.0 ∷ rest) outside
     × ((loads : Path → Loaded) → AreLoads tree b.settings loads
     → All (λ r. IsWhole (scene tree loads b.settings outside r.0) r.1) done
     × IsBegun (scene tree loads b.settings outside last.0) last.1))

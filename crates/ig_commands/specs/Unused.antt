@@ -25,10 +25,10 @@ use Rattle.commands.specs.Walking.{IsTrimmed}
 use Rattle.ig_options.specs.declared.options.Options.{Options}
 use Rattle.ig_commands.specs.Counts.{capped, stats_line, status_of}
 use Rattle.ig_commands.specs.Form.{at_end, rule_fields, rule_of}
-use Rattle.ig_commands.specs.Listing.{GoesBy, RefusesOptions}
+use Rattle.ig_commands.specs.Listing.{RefusesOptions}
 use Rattle.ig_commands.specs.Reports.{report_line, report_of}
 use Rattle.ig_commands.specs.Stops.{EndsAfter}
-use Rattle.ig_commands.specs.Surveys.{AreMetBy, IsAskedMet, IsWhole, OfRoot, all_seen, all_told, most_items, told_by, wrong_in}
+use Rattle.ig_commands.specs.Surveys.{AreMetBy, AreRootsBy, IsAskedMet, IsWhole, OfRoot, all_seen, all_told, most_items, told_by, wrong_in}
 use Rattle.ig_commands.specs.Worktree.{worktree}
 use Rattle.ig_commands.specs.declared.stop.Stop.{Stop}
 
@@ -96,7 +96,7 @@ pub record AreUnused (at : Path → QueryScene) (all : List OfRoot) (unused : Li
 -- where of each root no more items were met than a survey may have
 abbrev pub AreUnusedIn : Tree → Env → Options → WalkOptions → List OfRoot → List FileRule → Type 0
 AreUnusedIn tree env o b all unused =
-    (outside : Outside) × GoesBy tree env o b (map (λ r. r.0) all) outside
+    (outside : Outside) × AreRootsBy tree env o b (map (λ r. r.0) all) outside
     × ((loads : Path → Loaded) → AreLoads tree b.settings loads → let at = λ (root : Path). scene tree loads b.settings outside root in
     All (λ r. IsWhole (at r.0) r.1) all × (All (λ r. length r.1 ≤ most_items) all → AreUnused at all unused))
 

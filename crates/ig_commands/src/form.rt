@@ -7,15 +7,15 @@ ghost use Rattle.ignore_why.specs.Cited.{cited_of, named_of};
 ghost use Rattle.ignore_why.specs.QueryWhy.{query_why_of};
 ghost use Rattle.ig_options.specs.Quotes.{quoted_byte};
 ghost use Rattle.ig_commands.specs.Form.{after_path, before_path, between, field, is_decided, no_rule, number_text, reasoned, relative, rule_fields, rule_in, rule_of, word_fields};
-ghost use Rattle.ig_commands.specs.Stops.{IsUnwritten};
+ghost use Rattle.ig_commands.specs.Stops.{IsUnwritten, SaidBy};
 
 use crate::stop::Stop;
 use crate::writing::{write_bytes, write_stop};
+use commands::Output;
 use ig_options::quotes::{is_quoted, letter_of};
 use ignore_base::Match;
 use ignore_base::text::strip;
 use ignore_why::{Cause, Explanation, NamedRule, Reason};
-use std::io::Write;
 
 /// How fields are written.
 #[derive(Clone, Copy)]
@@ -92,7 +92,7 @@ pub(crate) fn origin_of(rule: &NamedRule) -> Origin<'_>
 }
 
 /// Writes a path after its reason.
-pub(crate) fn write_reasoned<W: Write>(
+pub(crate) fn write_reasoned<W: Output>(
     form: Form<'_>,
     explanation: &Explanation,
     path: &str,
@@ -100,6 +100,7 @@ pub(crate) fn write_reasoned<W: Write>(
 ) -> Result<(), Stop>
     ensures writes { OnOk result (Appends (W.contents out.old) (W.contents out.new) (reasoned (option_copied form.entry.base) form.entry.null (query_why_of explanation.now.reason) path.now)) }
     ensures ended { IfErr result IsUnwritten }
+    ensures said { IfErr result (SaidBy (W.fails out.new)) }
 {
     match rule_of(&explanation.reason) {
         Some(rule) => write_rule(form, &origin_of(rule), out)?,
@@ -111,13 +112,14 @@ pub(crate) fn write_reasoned<W: Write>(
 }
 
 /// Writes the three fields of a rule: its source, the number of its line, and the rule.
-pub(crate) fn write_rule<W: Write>(
+pub(crate) fn write_rule<W: Output>(
     form: Form<'_>,
     origin: &Origin<'_>,
     out: &mut W,
 ) -> Result<(), Stop>
     ensures writes { OnOk result (Appends (W.contents out.old) (W.contents out.new) (rule_fields (option_copied form.entry.base) form.entry.null origin.now.source.now origin.now.line origin.now.pattern.now)) }
     ensures ended { IfErr result IsUnwritten }
+    ensures said { IfErr result (SaidBy (W.fails out.new)) }
 {
     write_text(form, relative(form.base, origin.source), out)?;
     write_between(form, out)?;
@@ -128,9 +130,11 @@ pub(crate) fn write_rule<W: Write>(
 
 /// Writes three fields, of which the last is the word for a reason that is no rule; it is empty
 /// where nothing decides.
-fn write_word<W: Write>(form: Form<'_>, reason: &Reason, out: &mut W) -> Result<(), Stop>
+#[tactic(auto, using(crate::proofs::StopLemmas::said_as))]
+fn write_word<W: Output>(form: Form<'_>, reason: &Reason, out: &mut W) -> Result<(), Stop>
     ensures writes { OnOk result (Appends (W.contents out.old) (W.contents out.new) (word_fields form.entry.null (query_why_of reason.now))) }
     ensures ended { IfErr result IsUnwritten }
+    ensures said { IfErr result (SaidBy (W.fails out.new)) }
 {
     write_between(form, out)?;
     write_between(form, out)?;
@@ -139,23 +143,25 @@ fn write_word<W: Write>(form: Form<'_>, reason: &Reason, out: &mut W) -> Result<
     }
     match write!(out, "{reason}") {
         Ok(()) => Ok(()),
-        Err(error) => Err(write_stop(&error)),
+        Err(error) => Err(write_stop(error.kind())),
     }
 }
 
 /// Writes the first two of three fields that no rule has, which are empty.
-pub(crate) fn write_no_rule<W: Write>(form: Form<'_>, out: &mut W) -> Result<(), Stop>
+pub(crate) fn write_no_rule<W: Output>(form: Form<'_>, out: &mut W) -> Result<(), Stop>
     ensures writes { OnOk result (Appends (W.contents out.old) (W.contents out.new) (no_rule form.entry.null)) }
     ensures ended { IfErr result IsUnwritten }
+    ensures said { IfErr result (SaidBy (W.fails out.new)) }
 {
     write_between(form, out)?;
     write_between(form, out)
 }
 
 /// Writes a path after what is said of it.
-pub(crate) fn write_after<W: Write>(form: Form<'_>, path: &str, out: &mut W) -> Result<(), Stop>
+pub(crate) fn write_after<W: Output>(form: Form<'_>, path: &str, out: &mut W) -> Result<(), Stop>
     ensures writes { OnOk result (Appends (W.contents out.old) (W.contents out.new) (after_path form.entry.null path.now)) }
     ensures ended { IfErr result IsUnwritten }
+    ensures said { IfErr result (SaidBy (W.fails out.new)) }
 {
     write_before(form, out)?;
     write_text(form, path, out)?;
@@ -163,32 +169,36 @@ pub(crate) fn write_after<W: Write>(form: Form<'_>, path: &str, out: &mut W) -> 
 }
 
 /// Writes what separates a path from what is said of it.
-pub(crate) fn write_before<W: Write>(form: Form<'_>, out: &mut W) -> Result<(), Stop>
+pub(crate) fn write_before<W: Output>(form: Form<'_>, out: &mut W) -> Result<(), Stop>
     ensures writes { OnOk result (Appends (W.contents out.old) (W.contents out.new) (before_path form.entry.null)) }
     ensures ended { IfErr result IsUnwritten }
+    ensures said { IfErr result (SaidBy (W.fails out.new)) }
 {
     write_bytes(if form.null { b"\0" } else { b"\t" }, out)
 }
 
 /// Writes what separates the three fields of a rule.
-pub(crate) fn write_between<W: Write>(form: Form<'_>, out: &mut W) -> Result<(), Stop>
+pub(crate) fn write_between<W: Output>(form: Form<'_>, out: &mut W) -> Result<(), Stop>
     ensures writes { OnOk result (Appends (W.contents out.old) (W.contents out.new) (between form.entry.null)) }
     ensures ended { IfErr result IsUnwritten }
+    ensures said { IfErr result (SaidBy (W.fails out.new)) }
 {
     write_bytes(if form.null { b"\0" } else { b":" }, out)
 }
 
 /// Writes the number of a line, if there is one.
-pub(crate) fn write_number<W: Write>(line: Option<u64>, out: &mut W) -> Result<(), Stop>
+#[tactic(auto, using(crate::proofs::StopLemmas::said_as))]
+pub(crate) fn write_number<W: Output>(line: Option<u64>, out: &mut W) -> Result<(), Stop>
     ensures writes { OnOk result (Appends (W.contents out.old) (W.contents out.new) (number_text line)) }
     ensures ended { IfErr result IsUnwritten }
+    ensures said { IfErr result (SaidBy (W.fails out.new)) }
 {
     let Some(line) = line else {
         return Ok(());
     };
     match write!(out, "{line}") {
         Ok(()) => Ok(()),
-        Err(error) => Err(write_stop(&error)),
+        Err(error) => Err(write_stop(error.kind())),
     }
 }
 
@@ -203,9 +213,10 @@ fn relative<'a>(base: Option<&str>, source: &'a str) -> &'a str
 }
 
 /// Writes a path: as it is where fields end in NUL, else quoted as git quotes it, where it must be.
-pub(crate) fn write_text<W: Write>(form: Form<'_>, text: &str, out: &mut W) -> Result<(), Stop>
+pub(crate) fn write_text<W: Output>(form: Form<'_>, text: &str, out: &mut W) -> Result<(), Stop>
     ensures writes { OnOk result (Appends (W.contents out.old) (W.contents out.new) (field form.entry.null text.now)) }
     ensures ended { IfErr result IsUnwritten }
+    ensures said { IfErr result (SaidBy (W.fails out.new)) }
 {
     let bytes = text.as_bytes();
     if form.null || !bytes.iter().any(|byte| is_quoted(*byte)) {
@@ -219,9 +230,10 @@ pub(crate) fn write_text<W: Write>(form: Form<'_>, text: &str, out: &mut W) -> R
 }
 
 /// Writes a byte between quotes.
-fn write_byte<W: Write>(byte: u8, out: &mut W) -> Result<(), Stop>
+fn write_byte<W: Output>(byte: u8, out: &mut W) -> Result<(), Stop>
     ensures writes { OnOk result (Appends (W.contents out.old) (W.contents out.new) (quoted_byte byte)) }
     ensures ended { IfErr result IsUnwritten }
+    ensures said { IfErr result (SaidBy (W.fails out.new)) }
 {
     if !is_quoted(byte) {
         return write_bytes(&[byte], out);

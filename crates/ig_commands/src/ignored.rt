@@ -18,7 +18,7 @@ ghost use Rattle.commands.specs.Walking.{IsTrimmed};
 ghost use Rattle.ig_commands.specs.Counts.{counted};
 ghost use Rattle.ig_commands.specs.Ignored.{AreJudged, IgnoredAsked, IgnoredEnds, IsJudged, OfShown, Shown, Writes, all_met, all_written, entry_text, found_in, is_found, is_searched, is_topmost, seen_in, written};
 ghost use Rattle.ig_commands.specs.Reports.{report_line, report_of};
-ghost use Rattle.ig_commands.specs.Stops.{EndsAfter};
+ghost use Rattle.ig_commands.specs.Stops.{EndsAfter, IsOther, SaidBy};
 ghost use Rattle.ig_commands.specs.Names.{told_before, with_name};
 ghost use Rattle.ig_commands.specs.Surveys.{AreBegun, AreSurveys, IsBegun, IsWhole, OfMatcher, all_seen, all_told, begun_in, begun_told, is_wrong, item_names, item_told, left_from, name_place, names_by, reports, seen_of, told_from, told_in};
 ghost use Rattle.ig_commands.specs.Worktree.{worktree};
@@ -32,8 +32,8 @@ use crate::repositories::holds_repository;
 use crate::stop::Stop;
 use crate::worktree::{Worktree, roots_of};
 use crate::writing::{is_of_kind, refuse_or_end, report, write_path};
-use commands::World;
 use commands::internal::trimmed_roots;
+use commands::{Output, World};
 use ig_options::Options;
 use ignore::{IncrementalIgnore, WalkBuilder, WalkOptions, text};
 use ignore_base::Error;
@@ -52,7 +52,7 @@ use std::io::Write;
 ///
 /// # Errors
 /// Why it ended early, of which nothing was reported.
-pub fn list_ignored<F: Files, W: Write, E: Write>(
+pub fn list_ignored<F: Files, W: Output, E: Write>(
     world: &World<'_, F>,
     options: &Options,
     first: TypesBuilder,
@@ -63,6 +63,7 @@ pub fn list_ignored<F: Files, W: Write, E: Write>(
         (Appends (W.contents out.old) (W.contents out.new)) (Appends (E.contents err.old) (E.contents err.new))) }
     ensures ended { IfErr result (IgnoredEnds F.Files world.now.files.now world.now.env.now options.now first
         (Appends (W.contents out.old) (W.contents out.new)) (Appends (E.contents err.old) (E.contents err.new))) }
+    ensures said { IfErr result (SaidBy (W.fails out.new)) }
 {
     match asked_met(world, options, first) {
         Ok(asked) => survey_worktree(world, options, asked, out, err),
@@ -71,7 +72,7 @@ pub fn list_ignored<F: Files, W: Write, E: Write>(
 }
 
 /// Lists in the worktree of the roots.
-fn survey_worktree<F: Files, W: Write, E: Write>(
+fn survey_worktree<F: Files, W: Output, E: Write>(
     world: &World<'_, F>,
     options: &Options,
     asked: Asked,
@@ -88,6 +89,7 @@ fn survey_worktree<F: Files, W: Write, E: Write>(
         × ((tree : Tree) → IsHonest F.Files world.now.files.now tree → asked.walk.roots ≡ []
         → AreBegun (worktree roots tree) world.now.env.now options.now asked.walk (all_met all) × AreJudged tree options.now all))
         ⊎ EndsAfter [] [] (Appends (W.contents out.old) (W.contents out.new)) (Appends (E.contents err.old) (E.contents err.new)) stop) }
+    ensures said { IfErr result (SaidBy (W.fails out.new)) }
 {
     let Ok(roots) = roots_of(world.alloc, options) else {
         return Err(Stop::Memory);
@@ -118,7 +120,7 @@ struct Choice<'a, G: Files> {
 }
 
 /// Reports what is wrong with the files that are named, lists, and reports the counts.
-fn report_and_survey<F: Files, G: Files, W: Write, E: Write>(
+fn report_and_survey<F: Files, G: Files, W: Output, E: Write>(
     world: &World<'_, F>,
     choice: &Choice<'_, G>,
     asked: Asked,
@@ -134,6 +136,7 @@ fn report_and_survey<F: Files, G: Files, W: Write, E: Write>(
         (Appends (W.contents out.old) (W.contents out.new)) (Appends (E.contents err.old) (E.contents err.new)) stop
         × ((tree : Tree) → IsHonest F.Files world.now.files.now tree → asked.walk.roots ≡ [] → AreBegun tree world.now.env.now choice.now.options.now asked.walk (all_met all))
         × ((tree : Tree) → IsHonest G.Files choice.now.bare.now tree → AreJudged tree choice.now.options.now all)) }
+    ensures said { IfErr result (SaidBy (W.fails out.new)) }
 {
     let reported = report_all(&asked.errors, err)?;
     let options = choice.options;
@@ -167,7 +170,7 @@ pub(crate) fn matchers_of<F: Files>(
 }
 
 /// Surveys the root of each matcher, and writes.
-fn survey_all<F: Files, G: Files, W: Write, E: Write>(
+fn survey_all<F: Files, G: Files, W: Output, E: Write>(
     world: &World<'_, F>,
     choice: &Choice<'_, G>,
     matchers: Vec<IncrementalIgnore>,
@@ -185,6 +188,7 @@ fn survey_all<F: Files, G: Files, W: Write, E: Write>(
         × EndsAfter (all_written choice.now.options.now (done ++ last ∷ [])) (begun_told choice.now.options.now (all_met (done ++ last ∷ [])))
         (Appends (W.contents out.old) (W.contents out.new)) (Appends (E.contents err.old) (E.contents err.new)) stop
         × ((tree : Tree) → IsHonest G.Files choice.now.bare.now tree → AreJudged tree choice.now.options.now (done ++ last ∷ []))) }
+    ensures said { IfErr result (SaidBy (W.fails out.new)) }
 {
     let mut counts = Counts::begun(0);
     for matcher in matchers {
@@ -194,7 +198,7 @@ fn survey_all<F: Files, G: Files, W: Write, E: Write>(
 }
 
 /// Surveys the root of a matcher, and writes.
-fn survey_root<F: Files, G: Files, W: Write, E: Write>(
+fn survey_root<F: Files, G: Files, W: Output, E: Write>(
     world: &World<'_, F>,
     choice: &Choice<'_, G>,
     matcher: IncrementalIgnore,
@@ -210,6 +214,7 @@ fn survey_root<F: Files, G: Files, W: Write, E: Write>(
         × EndsAfter (flat_map (written choice.now.options.now r.0) r.1) (begun_in choice.now.options.now (seen_in r).1)
         (Appends (W.contents out.old) (W.contents out.new)) (Appends (E.contents err.old) (E.contents err.new)) stop
         × ((tree : Tree) → IsHonest G.Files choice.now.bare.now tree → All (IsJudged tree choice.now.options.now r.0) r.1)) }
+    ensures said { IfErr result (SaidBy (W.fails out.new)) }
 {
     let Ok(root) = String::from_str(world.alloc, matcher.root()) else {
         return Err(Stop::Memory);
@@ -239,7 +244,7 @@ struct Place<'a, G: Files> {
 }
 
 /// Writes the items of a survey.
-fn write_items<I: Iterator<Item = Item> + Drop, G: Files, W: Write, E: Write>(
+fn write_items<I: Iterator<Item = Item> + Drop, G: Files, W: Output, E: Write>(
     items: I,
     place: &Place<'_, G>,
     names: &mut Option<Unnamed>,
@@ -262,6 +267,7 @@ fn write_items<I: Iterator<Item = Item> + Drop, G: Files, W: Write, E: Write>(
         (Appends (W.contents out.old) (W.contents out.new)) (Appends (E.contents err.old) (E.contents err.new)) stop
         × All (λ item. item_of item ≢ Err memory) all
         × ((tree : Tree) → IsHonest G.Files place.now.bare.now tree → All (IsJudged tree place.now.options.now place.now.root.now) shown)) }
+    ensures said { IfErr result (SaidBy (W.fails out.new)) }
 {
     let mut counts = Counts::begun(0);
     for item in items {
@@ -271,7 +277,8 @@ fn write_items<I: Iterator<Item = Item> + Drop, G: Files, W: Write, E: Write>(
 }
 
 /// Writes what is listed of an item, and reports what is wrong.
-fn write_item<G: Files, W: Write, E: Write>(
+#[tactic(auto, using(crate::proofs::StopLemmas::other_said))]
+fn write_item<G: Files, W: Output, E: Write>(
     item: Item,
     place: &Place<'_, G>,
     names: &mut Option<Unnamed>,
@@ -286,6 +293,7 @@ fn write_item<G: Files, W: Write, E: Write>(
     ensures counts { IfOk result (λ seen. seen.reported ≡ is_wrong place.now.options.now (seen_of item)) }
     ensures enough { OnOk result (item_of item ≢ Err memory) }
     ensures ended { IfErr result (EndsAfter [] [] (Appends (W.contents out.old) (W.contents out.new)) (Appends (E.contents err.old) (E.contents err.new))) }
+    ensures said { IfErr result (SaidBy (W.fails out.new)) }
 {
     match item {
         Ok(entry) => write_entry(&entry, place, names, out, err),
@@ -304,6 +312,7 @@ pub(crate) fn note_item<E: Write>(
     ensures seen { IfOk result (λ seen. (seen.reported ≡ true) × (seen.found ≡ false)) }
     ensures enough { OnOk result (problem_of error ≢ memory) }
     ensures ended { IfErr result (EndsAfter [] [] (λ bs. bs ≡ []) (Appends (E.contents err.old) (E.contents err.new))) }
+    ensures other { IfErr result IsOther }
 {
     match place_in(error) {
         Ok(place) => note_name(place, names, err),
@@ -349,6 +358,7 @@ fn report_item<E: Write>(error: &Error, err: &mut E) -> Result<Seen, Stop>
     ensures seen { IfOk result (λ seen. (seen.reported ≡ true) × (seen.found ≡ false)) }
     ensures enough { OnOk result (problem_of error.now ≢ memory) }
     ensures ended { IfErr result (EndsAfter [] [] (λ bs. bs ≡ []) (Appends (E.contents err.old) (E.contents err.new))) }
+    ensures other { IfErr result IsOther }
 {
     match error {
         Error::Memory => Err(Stop::Memory),
@@ -371,7 +381,7 @@ fn report_problem<E: Write>(error: &Error, err: &mut E) -> Result<Seen, Stop>
 
 /// Writes an entry, where it is ignored and not left out, and reports the names of a folder that aren't
 /// UTF-8, which come first there, and what is wrong with the files of rules that were read for it.
-fn write_entry<G: Files, W: Write, E: Write>(
+fn write_entry<G: Files, W: Output, E: Write>(
     entry: &Surveyed,
     place: &Place<'_, G>,
     names: &mut Option<Unnamed>,
@@ -385,6 +395,7 @@ fn write_entry<G: Files, W: Write, E: Write>(
     ensures names { OnOk result (names.new ≡ names_by names.old (seen_of (Ok entry.now))) }
     ensures counts { IfOk result (λ seen. seen.reported ≡ is_wrong place.now.options.now (seen_of (Ok entry.now))) }
     ensures ended { IfErr result (EndsAfter [] [] (Appends (W.contents out.old) (W.contents out.new)) (Appends (E.contents err.old) (E.contents err.new))) }
+    ensures said { IfErr result (SaidBy (W.fails out.new)) }
 {
     let options = place.options;
     let left_out = is_left_out(entry, place)?;
@@ -429,7 +440,7 @@ fn is_topmost(entry: &Surveyed, options: &Options) -> bool
 }
 
 /// Writes an entry, where it is listed, unless nothing is to be written.
-fn write_found<G: Files, W: Write>(
+fn write_found<G: Files, W: Output>(
     found: bool,
     entry: &Surveyed,
     place: &Place<'_, G>,
@@ -438,6 +449,7 @@ fn write_found<G: Files, W: Write>(
     ensures writes { OnOk result (Appends (W.contents out.old) (W.contents out.new)
         (if found && not place.now.options.now.quiet then entry_text place.now.options.now place.now.root.now (entry_of entry.now) else [])) }
     ensures ended { IfErr result (EndsAfter [] [] (Appends (W.contents out.old) (W.contents out.new)) (λ bs. bs ≡ [])) }
+    ensures said { IfErr result (SaidBy (W.fails out.new)) }
 {
     if !found || place.options.quiet {
         return Ok(());
@@ -446,13 +458,14 @@ fn write_found<G: Files, W: Write>(
 }
 
 /// Writes the path of an entry, after its reason where that is asked for.
-fn write_ignored<G: Files, W: Write>(
+fn write_ignored<G: Files, W: Output>(
     entry: &Surveyed,
     place: &Place<'_, G>,
     out: &mut W,
 ) -> Result<(), Stop>
     ensures writes { OnOk result (Appends (W.contents out.old) (W.contents out.new) (entry_text place.now.options.now place.now.root.now (entry_of entry.now))) }
     ensures ended { IfErr result (EndsAfter [] [] (Appends (W.contents out.old) (W.contents out.new)) (λ bs. bs ≡ [])) }
+    ensures said { IfErr result (SaidBy (W.fails out.new)) }
 {
     let Ok(path) = text::join(place.alloc, place.root, entry.path.as_str()) else {
         return Err(Stop::Memory);

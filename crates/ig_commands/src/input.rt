@@ -16,7 +16,7 @@ ghost use Rattle.ig_commands.specs.Counts.{counted};
 ghost use Rattle.ig_commands.specs.Input.{AreGiven, BeginsGiving};
 ghost use Rattle.ig_commands.specs.Reports.{report_of};
 ghost use Rattle.ig_commands.specs.Run.{types_at_first};
-ghost use Rattle.ig_commands.specs.Stops.{EndsAfter, EndsReading, IsUnwritten, read_stop};
+ghost use Rattle.ig_commands.specs.Stops.{EndsAfter, EndsReading, IsUnwritten, SaidBy, read_stop};
 ghost use Rattle.ig_commands.specs.Why.{AreAll, AreBegun, AreSaid, InputAsked, InputEnds, IsSaid, Writes, is_found, is_wrong, reports, written};
 ghost use Rattle.ig_commands.specs.Why.{Said as Plain};
 
@@ -26,7 +26,7 @@ use crate::reports::report_all;
 use crate::stop::Stop;
 use crate::why::{ask, matcher_of, write_said};
 use crate::writing::{refuse_or_end, write_stop};
-use commands::World;
+use commands::{Output, World};
 use ig_options::{Options, given_by};
 use ignore::IncrementalIgnore;
 use ignore_files::Files;
@@ -52,7 +52,7 @@ struct Record {
 ///
 /// # Errors
 /// Why it ended early, of which nothing was reported.
-pub(crate) fn why_input<F: Files, R: BufRead + Drop, W: Write, E: Write>(
+pub(crate) fn why_input<F: Files, R: BufRead + Drop, W: Output, E: Write>(
     world: &World<'_, F>,
     options: &Options,
     input: R,
@@ -63,6 +63,7 @@ pub(crate) fn why_input<F: Files, R: BufRead + Drop, W: Write, E: Write>(
         (Appends (W.contents out.old) (W.contents out.new)) (Appends (E.contents err.old) (E.contents err.new))) }
     ensures ended { IfErr result (InputEnds F.Files world.now.files.now world.now.env.now options.now types_at_first (R.remaining input)
         (Appends (W.contents out.old) (W.contents out.new)) (Appends (E.contents err.old) (E.contents err.new))) }
+    ensures said { IfErr result (SaidBy (W.fails out.new)) }
 {
     let Ok(first) = default_types(world.alloc) else {
         return Err(Stop::Memory);
@@ -74,7 +75,7 @@ pub(crate) fn why_input<F: Files, R: BufRead + Drop, W: Write, E: Write>(
 }
 
 /// Reports what is wrong with the files that are named, and answers.
-fn report_and_answer<F: Files, R: BufRead + Drop, W: Write, E: Write>(
+fn report_and_answer<F: Files, R: BufRead + Drop, W: Output, E: Write>(
     asking: &Asking<'_, '_, F>,
     asked: Asked,
     input: R,
@@ -90,6 +91,7 @@ fn report_and_answer<F: Files, R: BufRead + Drop, W: Write, E: Write>(
         × EndsReading (flat_map (written asking.now.options.now root) said) (flat_map report_of (map (option_map problem_of) asked.errors.items) ++ flat_map (reports asking.now.options.now root) said)
         (Appends (W.contents out.old) (W.contents out.new)) (Appends (E.contents err.old) (E.contents err.new)) stop
         × ((tree : Tree) → IsHonest F.Files asking.now.world.now.files.now tree → AreBegun tree asking.now.world.now.env.now asked.walk given root said)) }
+    ensures said { IfErr result (SaidBy (W.fails out.new)) }
 {
     let reported = report_all(&asked.errors, err)?;
     let Ok(mut matcher) = matcher_of(asking.world, asked.walk) else {
@@ -103,7 +105,7 @@ fn report_and_answer<F: Files, R: BufRead + Drop, W: Write, E: Write>(
 }
 
 /// Answers each path of standard input as it comes: the output is flushed after each.
-fn answer_all<F: Files, R: BufRead + Drop, W: Write, E: Write>(
+fn answer_all<F: Files, R: BufRead + Drop, W: Output, E: Write>(
     asking: &Asking<'_, '_, F>,
     matcher: &mut IncrementalIgnore,
     input: R,
@@ -123,6 +125,7 @@ fn answer_all<F: Files, R: BufRead + Drop, W: Write, E: Write>(
         (Appends (W.contents out.old) (W.contents out.new)) (Appends (E.contents err.old) (E.contents err.new)) stop
         × InEachScene F.Files asking.now.world.now.files.now matcher.old.asked (λ g. Agrees g matcher.old.cache
         → AreSaid g (dir_of matcher.old.asked) given matcher.old.cache last said)) }
+    ensures said { IfErr result (SaidBy (W.fails out.new)) }
 {
     let end = if asking.options.null { 0u8 } else { b'\n' };
     let mut counts = Counts::begun(0);
@@ -141,7 +144,7 @@ fn answer_all<F: Files, R: BufRead + Drop, W: Write, E: Write>(
 }
 
 /// Answers about what a record gives.
-fn answer<F: Files, W: Write, E: Write>(
+fn answer<F: Files, W: Output, E: Write>(
     asking: &Asking<'_, '_, F>,
     matcher: &mut IncrementalIgnore,
     piece: Record,
@@ -157,6 +160,7 @@ fn answer<F: Files, W: Write, E: Write>(
         → IsSaid g (dir_of matcher.old.asked) given matcher.old.cache matcher.new.cache one × Agrees g matcher.new.cache)) }
     ensures same { matcher.new.asked ≡ matcher.old.asked }
     ensures ended { IfErr result (EndsAfter [] [] (Appends (W.contents out.old) (W.contents out.new)) (Appends (E.contents err.old) (E.contents err.new))) }
+    ensures said { IfErr result (SaidBy (W.fails out.new)) }
 {
     let Ok(given) = given_by(piece.text, piece.number, asking.options.null) else {
         return Err(Stop::Memory);
@@ -167,13 +171,15 @@ fn answer<F: Files, W: Write, E: Write>(
 }
 
 /// Writes what an output still keeps.
-fn flush<W: Write>(out: &mut W) -> Result<(), Stop>
+#[tactic(auto, using(crate::proofs::StopLemmas::said_as))]
+fn flush<W: Output>(out: &mut W) -> Result<(), Stop>
     ensures written { Keeps (W.contents out.old) (W.contents out.new) }
     ensures ended { IfErr result IsUnwritten }
+    ensures said { IfErr result (SaidBy (W.fails out.new)) }
 {
     match out.flush() {
         Ok(()) => Ok(()),
-        Err(error) => Err(write_stop(&error)),
+        Err(error) => Err(write_stop(error.kind())),
     }
 }
 

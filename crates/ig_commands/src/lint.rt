@@ -1,5 +1,5 @@
 //! The command `lint`: what is wrong with files of rules.
-ghost use Rattle.std.specs.Prelude.{◌≡◌, ◌||◌, ◌==◌, ◌++◌, Bool, IfOk, List, OnOk, Option, false, is_some, length, not, true};
+ghost use Rattle.std.specs.Prelude.{◌≡◌, ◌||◌, ◌==◌, ◌++◌, Bool, IfOk, List, OnOk, Option, false, is_some, length, nat_lt, not, true, IfErr};
 ghost use Rattle.std.specs.Io.KnownBytes.{Appends};
 ghost use Rattle.std.specs.List.{AllZip, flat_map, list_any};
 ghost use Rattle.ignore_base.specs.Text.{Path};
@@ -10,8 +10,9 @@ ghost use Rattle.ig_every.specs.Linted.{IsLinted};
 ghost use Rattle.ig_every.specs.Texts.{finding_json, wrong_text};
 ghost use Rattle.ig_every.specs.declared.linted.Linted.{Linted};
 ghost use Rattle.ig_commands.specs.Form.{at_end};
-ghost use Rattle.ig_commands.specs.Lint.{IsInFolders, IsLook, IsTold, LintAsked, LintsGiven, LintsMet, Look, MayNote, after_line, fault_line, finding_fields, finding_text, is_found, is_reported, lint_status, look_report, look_text, looked, option_text, refused_text, wanting};
+ghost use Rattle.ig_commands.specs.Lint.{HasOther, IsInFolders, IsLook, IsTold, LintAsked, LintsGiven, LintsMet, Look, LooksMet, MayNote, WritesLooks, after_line, fault_line, finding_fields, finding_text, has_rules, is_found, is_reported, lint_status, look_report, look_text, looked, option_text, refused_text, wanting};
 ghost use Rattle.ig_commands.specs.Sides.{how_read};
+ghost use Rattle.ig_commands.specs.Stops.{IsOther, SaidBy};
 
 use crate::form::{Form, write_between, write_number, write_text};
 use crate::reinclude::{is_reincluded, is_top};
@@ -19,7 +20,7 @@ use crate::sides::how_read;
 use crate::sources::{Sources, find_sources, given_sources};
 use crate::stop::Stop;
 use crate::writing::write_bytes;
-use commands::World;
+use commands::{Output, World};
 use ig_every::{Diagnostic, Linted, Wrong, json_of, lint, text_of};
 use ig_options::Options;
 use ignore_base::{Error, Fault};
@@ -36,15 +37,16 @@ use std::io::Write;
 ///
 /// # Errors
 /// Why it ended early, of which nothing was reported.
-pub(crate) fn lint_files<F: Files, W: Write, E: Write>(
+pub(crate) fn lint_files<F: Files, W: Output, E: Write>(
     world: &World<'_, F>,
     options: &Options,
     first: TypesBuilder,
     out: &mut W,
     err: &mut E,
 ) -> Result<u8, Stop>
-    ensures { IfOk result (λ status. LintAsked F.Files world.now.files.now world.now.env.now options.now first false status
+    ensures lints { IfOk result (λ status. LintAsked F.Files world.now.files.now world.now.env.now options.now first false status
         (Appends (W.contents out.old) (W.contents out.new)) (Appends (E.contents err.old) (E.contents err.new))) }
+    ensures said { IfErr result (SaidBy (W.fails out.new)) }
 {
     let how = How {
         options,
@@ -57,15 +59,16 @@ pub(crate) fn lint_files<F: Files, W: Write, E: Write>(
 ///
 /// # Errors
 /// Why it ended early, of which nothing was reported.
-pub(crate) fn lint_json<F: Files, W: Write, E: Write>(
+pub(crate) fn lint_json<F: Files, W: Output, E: Write>(
     world: &World<'_, F>,
     options: &Options,
     first: TypesBuilder,
     out: &mut W,
     err: &mut E,
 ) -> Result<u8, Stop>
-    ensures { IfOk result (λ status. LintAsked F.Files world.now.files.now world.now.env.now options.now first true status
+    ensures lints { IfOk result (λ status. LintAsked F.Files world.now.files.now world.now.env.now options.now first true status
         (Appends (W.contents out.old) (W.contents out.new)) (Appends (E.contents err.old) (E.contents err.new))) }
+    ensures said { IfErr result (SaidBy (W.fails out.new)) }
 {
     let how = How {
         options,
@@ -82,15 +85,16 @@ struct How<'o> {
 }
 
 /// Writes what is wrong with the files that are given, or met.
-fn lint_by<F: Files, W: Write, E: Write>(
+fn lint_by<F: Files, W: Output, E: Write>(
     world: &World<'_, F>,
     how: How<'_>,
     first: TypesBuilder,
     out: &mut W,
     err: &mut E,
 ) -> Result<u8, Stop>
-    ensures { IfOk result (λ status. LintAsked F.Files world.now.files.now world.now.env.now how.entry.options.now first how.entry.json status
+    ensures lints { IfOk result (λ status. LintAsked F.Files world.now.files.now world.now.env.now how.entry.options.now first how.entry.json status
         (Appends (W.contents out.old) (W.contents out.new)) (Appends (E.contents err.old) (E.contents err.new))) }
+    ensures said { IfErr result (SaidBy (W.fails out.new)) }
 {
     if has_none(how.options) {
         return lint_met(world, how, first, out, err);
@@ -106,14 +110,15 @@ fn has_none(options: &Options) -> bool
 }
 
 /// Writes what is wrong with the files that are given.
-fn lint_given<F: Files, W: Write, E: Write>(
+fn lint_given<F: Files, W: Output, E: Write>(
     world: &World<'_, F>,
     how: How<'_>,
     out: &mut W,
     err: &mut E,
 ) -> Result<u8, Stop>
-    ensures { IfOk result (λ status. LintsGiven F.Files world.now.files.now how.entry.options.now how.entry.json status
+    ensures lints { IfOk result (λ status. LintsGiven F.Files world.now.files.now how.entry.options.now how.entry.json status
         (Appends (W.contents out.old) (W.contents out.new)) (Appends (E.contents err.old) (E.contents err.new))) }
+    ensures said { IfErr result (SaidBy (W.fails out.new)) }
 {
     let Ok(sources) = given_sources(world.alloc, how.options) else {
         return Err(Stop::Memory);
@@ -130,15 +135,17 @@ fn lint_given<F: Files, W: Write, E: Write>(
 }
 
 /// Writes what is wrong with the files that are met.
-fn lint_met<F: Files, W: Write, E: Write>(
+#[tactic(auto, using(crate::proofs::StopLemmas::other_said))]
+fn lint_met<F: Files, W: Output, E: Write>(
     world: &World<'_, F>,
     how: How<'_>,
     first: TypesBuilder,
     out: &mut W,
     err: &mut E,
 ) -> Result<u8, Stop>
-    ensures { IfOk result (λ status. LintsMet F.Files world.now.files.now world.now.env.now how.entry.options.now first how.entry.json status
+    ensures lints { IfOk result (λ status. LintsMet F.Files world.now.files.now world.now.env.now how.entry.options.now first how.entry.json status
         (Appends (W.contents out.old) (W.contents out.new)) (Appends (E.contents err.old) (E.contents err.new))) }
+    ensures said { IfErr result (SaidBy (W.fails out.new)) }
 {
     match find_sources(world, how.options, first, err)? {
         Some(sources) => lint_all(world, how, &sources, out, err),
@@ -147,17 +154,19 @@ fn lint_met<F: Files, W: Write, E: Write>(
 }
 
 /// Writes what is wrong with each of these files. It returns the status.
-fn lint_all<F: Files, W: Write, E: Write>(
+fn lint_all<F: Files, W: Output, E: Write>(
     world: &World<'_, F>,
     how: How<'_>,
     sources: &Sources,
     out: &mut W,
     err: &mut E,
 ) -> Result<u8, Stop>
-    ensures { IfOk result (λ status. (paths : List Path) × (looks : List Look) × (any : Bool)
-        × (status ≡ lint_status (any || list_any is_reported looks) (list_any is_found looks))
-        × Appends (W.contents out.old) (W.contents out.new) (flat_map (look_text how.entry.options.now how.entry.json) looks)
-        × ((tree : Tree) → IsHonest F.Files world.now.files.now tree → AllZip (IsLook tree how.entry.options.now true) paths looks)) }
+    ensures lints { IfOk result (λ status. (first : List Look) × (rest : List Look)
+        × WritesLooks how.entry.options.now how.entry.json (nat_lt 0 sources.now.reported) (first ++ rest) status (Appends (W.contents out.old) (W.contents out.new))
+        × Appends (E.contents err.old) (E.contents err.new) (flat_map look_report (first ++ rest))
+        × ((tree : Tree) → IsHonest F.Files world.now.files.now tree
+        → LooksMet tree how.entry.options.now sources.now.outside.items sources.now.below.items first rest)) }
+    ensures said { IfErr result (SaidBy (W.fails out.new)) }
 {
     let outside = Linting {
         world,
@@ -180,7 +189,9 @@ fn lint_all<F: Files, W: Write, E: Write>(
 }
 
 /// Whether something was reported while files were sought.
-fn is_any(sources: &Sources) -> bool {
+fn is_any(sources: &Sources) -> bool
+    ensures { result ≡ nat_lt 0 sources.now.reported }
+{
     sources.reported > 0
 }
 
@@ -207,6 +218,7 @@ impl Seen {
     fn and(self, others: Seen) -> Seen
         ensures reported { result.reported ≡ (self.reported || others.reported) }
         ensures found { result.found ≡ (self.found || others.found) }
+        ensures has_rules { result.has_rules ≡ (self.has_rules || others.has_rules) }
     {
         Seen {
             reported: self.reported || others.reported,
@@ -229,16 +241,19 @@ fn status_by(any: bool, seen: Seen) -> u8
 }
 
 /// Writes what is wrong with each of these files.
-fn look_at<F: Files, W: Write, E: Write>(
+fn look_at<F: Files, W: Output, E: Write>(
     all: &Linting<'_, '_, F>,
     paths: &[Name],
     out: &mut W,
     err: &mut E,
 ) -> Result<Seen, Stop>
-    ensures { IfOk result (λ seen. (looks : List Look) × (seen.reported ≡ list_any is_reported looks) × (seen.found ≡ list_any is_found looks)
+    ensures lints { IfOk result (λ seen. (looks : List Look) × (seen.reported ≡ list_any is_reported looks) × (seen.found ≡ list_any is_found looks)
         × Appends (W.contents out.old) (W.contents out.new) (flat_map (look_text all.now.how.options.now all.now.how.json) looks)
         × Appends (E.contents err.old) (E.contents err.new) (flat_map look_report looks)
-        × ((tree : Tree) → IsHonest F.Files all.now.world.now.files.now tree → AllZip (IsLook tree all.now.how.options.now all.now.may_note) paths.now looks)) }
+        × (seen.has_rules ≡ list_any has_rules looks)
+        × ((tree : Tree) → IsHonest F.Files all.now.world.now.files.now tree
+        → AllZip (IsLook tree all.now.how.options.now (all.now.sources.now.outside.items ++ all.now.sources.now.below.items) all.now.may_note) paths.now looks)) }
+    ensures said { IfErr result (SaidBy (W.fails out.new)) }
 {
     let mut seen = Seen {
         reported: false,
@@ -253,16 +268,20 @@ fn look_at<F: Files, W: Write, E: Write>(
 }
 
 /// Writes what is wrong with a file.
-fn lint_file<F: Files, W: Write, E: Write>(
+#[tactic(auto, using(crate::proofs::StopLemmas::other_said))]
+fn lint_file<F: Files, W: Output, E: Write>(
     all: &Linting<'_, '_, F>,
     path: &str,
     out: &mut W,
     err: &mut E,
 ) -> Result<Seen, Stop>
-    ensures { IfOk result (λ seen. (look : Look) × (seen.reported ≡ is_reported look) × (seen.found ≡ is_found look)
+    ensures lints { IfOk result (λ seen. (look : Look) × (seen.reported ≡ is_reported look) × (seen.found ≡ is_found look)
         × Appends (W.contents out.old) (W.contents out.new) (look_text all.now.how.options.now all.now.how.json look)
         × Appends (E.contents err.old) (E.contents err.new) (look_report look)
-        × ((tree : Tree) → IsHonest F.Files all.now.world.now.files.now tree → IsLook tree all.now.how.options.now all.now.may_note path.now look)) }
+        × (seen.has_rules ≡ has_rules look)
+        × ((tree : Tree) → IsHonest F.Files all.now.world.now.files.now tree
+        → IsLook tree all.now.how.options.now (all.now.sources.now.outside.items ++ all.now.sources.now.below.items) all.now.may_note path.now look)) }
+    ensures said { IfErr result (SaidBy (W.fails out.new)) }
 {
     match all.world.files.contents(all.world.alloc, path) {
         Ok(contents) => lint_contents(all, path, &contents, out, err),
@@ -272,8 +291,9 @@ fn lint_file<F: Files, W: Write, E: Write>(
 
 /// Reports that a file can't be read, unless memory ran out, which ends the command.
 fn report_refusal<E: Write>(path: &str, refusal: Refusal, err: &mut E) -> Result<Seen, Stop>
-    ensures { IfOk result (λ seen. (fault : Fault) × (refusal ≡ Refusal.Fault fault) × (seen.reported ≡ true) × (seen.found ≡ false)
+    ensures reports { IfOk result (λ seen. (fault : Fault) × (refusal ≡ Refusal.Fault fault) × (seen.reported ≡ true) × (seen.found ≡ false) × (seen.has_rules ≡ false)
         × Appends (E.contents err.old) (E.contents err.new) (fault_line path.now fault)) }
+    ensures other { IfErr result IsOther }
 {
     match refusal {
         Refusal::Fault(fault) => {
@@ -289,19 +309,22 @@ fn report_refusal<E: Write>(path: &str, refusal: Refusal, err: &mut E) -> Result
 }
 
 /// Writes what is wrong with a file, of which this was read.
-fn lint_contents<F: Files, W: Write, E: Write>(
+#[tactic(auto, using(crate::proofs::StopLemmas::other_said))]
+fn lint_contents<F: Files, W: Output, E: Write>(
     all: &Linting<'_, '_, F>,
     path: &str,
     contents: &Contents,
     out: &mut W,
     err: &mut E,
 ) -> Result<Seen, Stop>
-    ensures { IfOk result (λ seen. (linted : Linted) × (told : List (Option Diagnostic)) × (has_notes : Bool)
+    ensures lints { IfOk result (λ seen. (linted : Linted) × (told : List (Option Diagnostic)) × (has_notes : Bool)
         × MayNote all.now.may_note has_notes × IsLinted (how_read all.now.how.options.now) path.now contents.now.bytes has_notes linted
-        × AllZip IsTold linted.verdicts.rules.items told
+        × AllZip (IsTold (all.now.sources.now.outside.items ++ all.now.sources.now.below.items) path.now) linted.verdicts.rules.items told
+        × (seen.has_rules ≡ has_rules (looked path.now contents.now.fault linted told))
         × (seen.reported ≡ is_reported (looked path.now contents.now.fault linted told)) × (seen.found ≡ is_found (looked path.now contents.now.fault linted told))
         × Appends (W.contents out.old) (W.contents out.new) (look_text all.now.how.options.now all.now.how.json (looked path.now contents.now.fault linted told))
         × Appends (E.contents err.old) (E.contents err.new) (look_report (looked path.now contents.now.fault linted told))) }
+    ensures said { IfErr result (SaidBy (W.fails out.new)) }
 {
     let linted = linted_of(all, path, contents)?;
     let found = write_linted(all, path, &linted, out)?;
@@ -314,7 +337,9 @@ fn lint_contents<F: Files, W: Write, E: Write>(
 }
 
 /// Whether a file has rules.
-fn has_rules(linted: &Linted) -> bool {
+fn has_rules(linted: &Linted) -> bool
+    ensures { result ≡ (not (length linted.now.verdicts.rules.items == 0) || is_some linted.now.verdicts.refused) }
+{
     !linted.verdicts.rules.is_empty() || linted.verdicts.refused.is_some()
 }
 
@@ -324,8 +349,9 @@ fn linted_of<F: Files>(
     path: &str,
     contents: &Contents,
 ) -> Result<Linted, Stop>
-    ensures { IfOk result (λ linted. (has_notes : Bool) × MayNote all.now.may_note has_notes
+    ensures linted { IfOk result (λ linted. (has_notes : Bool) × MayNote all.now.may_note has_notes
         × IsLinted (how_read all.now.how.options.now) path.now contents.now.bytes has_notes linted) }
+    ensures other { IfErr result IsOther }
 {
     let Ok(has_notes) = wants_notes(all, path, contents) else {
         return Err(Stop::Memory);
@@ -353,17 +379,18 @@ fn wants_notes<F: Files>(
 }
 
 /// Writes what is wrong with a file. It returns whether anything is.
-fn write_linted<F: Files, W: Write>(
+fn write_linted<F: Files, W: Output>(
     all: &Linting<'_, '_, F>,
     path: &str,
     linted: &Linted,
     out: &mut W,
 ) -> Result<bool, Stop>
-    ensures { IfOk result (λ found. (told : List (Option Diagnostic)) × AllZip IsTold linted.now.verdicts.rules.items told
+    ensures writes { IfOk result (λ found. (told : List (Option Diagnostic)) × AllZip (IsTold (all.now.sources.now.outside.items ++ all.now.sources.now.below.items) path.now) linted.now.verdicts.rules.items told
         × (found ≡ (not (length linted.now.lines.items == 0) || list_any is_some told))
         × Appends (W.contents out.old) (W.contents out.new) (flat_map (finding_text all.now.how.options.now all.now.how.json path.now) linted.now.lines.items
         ++ (flat_map (option_text all.now.how.options.now all.now.how.json path.now) told
         ++ flat_map (finding_text all.now.how.options.now all.now.how.json path.now) linted.now.verdicts.notes.items))) }
+    ensures said { IfErr result (SaidBy (W.fails out.new)) }
 {
     write_lines(all, path, linted, out)?;
     let is_told = write_verdicts(all, path, linted, out)?;
@@ -379,51 +406,55 @@ fn has_found(linted: &Linted, is_told: bool) -> bool
 }
 
 /// Writes what is wrong with the lines of a file.
-fn write_lines<F: Files, W: Write>(
+fn write_lines<F: Files, W: Output>(
     all: &Linting<'_, '_, F>,
     path: &str,
     linted: &Linted,
     out: &mut W,
 ) -> Result<(), Stop>
-    ensures { OnOk result (Appends (W.contents out.old) (W.contents out.new) (flat_map (finding_text all.now.how.options.now all.now.how.json path.now) linted.now.lines.items)) }
+    ensures writes { OnOk result (Appends (W.contents out.old) (W.contents out.new) (flat_map (finding_text all.now.how.options.now all.now.how.json path.now) linted.now.lines.items)) }
+    ensures said { IfErr result (SaidBy (W.fails out.new)) }
 {
     write_all(all.world.alloc, all.how, path, &linted.lines, out)
 }
 
 /// Writes the notes on the rules of a file.
-fn write_notes<F: Files, W: Write>(
+fn write_notes<F: Files, W: Output>(
     all: &Linting<'_, '_, F>,
     path: &str,
     linted: &Linted,
     out: &mut W,
 ) -> Result<(), Stop>
-    ensures { OnOk result (Appends (W.contents out.old) (W.contents out.new) (flat_map (finding_text all.now.how.options.now all.now.how.json path.now) linted.now.verdicts.notes.items)) }
+    ensures writes { OnOk result (Appends (W.contents out.old) (W.contents out.new) (flat_map (finding_text all.now.how.options.now all.now.how.json path.now) linted.now.verdicts.notes.items)) }
+    ensures said { IfErr result (SaidBy (W.fails out.new)) }
 {
     write_all(all.world.alloc, all.how, path, &linted.verdicts.notes, out)
 }
 
 /// Writes what is told of the rules of a file. It returns whether anything is.
-fn write_verdicts<F: Files, W: Write>(
+fn write_verdicts<F: Files, W: Output>(
     all: &Linting<'_, '_, F>,
     path: &str,
     linted: &Linted,
     out: &mut W,
 ) -> Result<bool, Stop>
-    ensures { IfOk result (λ any. (told : List (Option Diagnostic)) × AllZip IsTold linted.now.verdicts.rules.items told × (any ≡ list_any is_some told)
+    ensures writes { IfOk result (λ any. (told : List (Option Diagnostic)) × AllZip (IsTold (all.now.sources.now.outside.items ++ all.now.sources.now.below.items) path.now) linted.now.verdicts.rules.items told × (any ≡ list_any is_some told)
         × Appends (W.contents out.old) (W.contents out.new) (flat_map (option_text all.now.how.options.now all.now.how.json path.now) told)) }
+    ensures said { IfErr result (SaidBy (W.fails out.new)) }
 {
     write_rules(all, path, &linted.verdicts.rules, out)
 }
 
 /// Writes each of what is wrong with lines of a file.
-fn write_all<W: Write>(
+fn write_all<W: Output>(
     alloc: Global,
     how: How<'_>,
     path: &str,
     found: &[Diagnostic],
     out: &mut W,
 ) -> Result<(), Stop>
-    ensures { OnOk result (Appends (W.contents out.old) (W.contents out.new) (flat_map (finding_text how.entry.options.now how.entry.json path.now) found.now)) }
+    ensures writes { OnOk result (Appends (W.contents out.old) (W.contents out.new) (flat_map (finding_text how.entry.options.now how.entry.json path.now) found.now)) }
+    ensures said { IfErr result (SaidBy (W.fails out.new)) }
 {
     for diagnostic in found {
         write_found(alloc, how, path, diagnostic, out)?;
@@ -432,14 +463,15 @@ fn write_all<W: Write>(
 }
 
 /// Writes what is wrong with the rules of a file. It returns whether anything is told.
-fn write_rules<F: Files, W: Write>(
+fn write_rules<F: Files, W: Output>(
     all: &Linting<'_, '_, F>,
     path: &str,
     rules: &[Option<Diagnostic>],
     out: &mut W,
 ) -> Result<bool, Stop>
-    ensures { IfOk result (λ any. (told : List (Option Diagnostic)) × AllZip IsTold rules.now told × (any ≡ list_any is_some told)
+    ensures writes { IfOk result (λ any. (told : List (Option Diagnostic)) × AllZip (IsTold (all.now.sources.now.outside.items ++ all.now.sources.now.below.items) path.now) rules.now told × (any ≡ list_any is_some told)
         × Appends (W.contents out.old) (W.contents out.new) (flat_map (option_text all.now.how.options.now all.now.how.json path.now) told)) }
+    ensures said { IfErr result (SaidBy (W.fails out.new)) }
 {
     let mut any = false;
     for judged in rules {
@@ -458,14 +490,15 @@ fn either(one: bool, other: bool) -> bool
 
 /// Writes what is wrong with a rule, if anything is, unless another file mends it. It returns whether it
 /// is told.
-fn write_told<F: Files, W: Write>(
+fn write_told<F: Files, W: Output>(
     all: &Linting<'_, '_, F>,
     path: &str,
     judged: &Option<Diagnostic>,
     out: &mut W,
 ) -> Result<bool, Stop>
-    ensures { IfOk result (λ is_told. (told : Option Diagnostic) × IsTold judged.now told × (is_told ≡ is_some told)
+    ensures writes { IfOk result (λ is_told. (told : Option Diagnostic) × IsTold (all.now.sources.now.outside.items ++ all.now.sources.now.below.items) path.now judged.now told × (is_told ≡ is_some told)
         × Appends (W.contents out.old) (W.contents out.new) (option_text all.now.how.options.now all.now.how.json path.now told)) }
+    ensures said { IfErr result (SaidBy (W.fails out.new)) }
 {
     let Some(diagnostic) = judged else {
         return Ok(false);
@@ -486,7 +519,8 @@ fn is_mended<F: Files>(
     path: &str,
     diagnostic: &Diagnostic,
 ) -> Result<bool, Error>
-    ensures { IfOk result (λ mended. mended ≡ true → IsInFolders diagnostic.now.wrong) }
+    ensures { IfOk result (λ mended. mended ≡ true → IsInFolders diagnostic.now.wrong
+        × HasOther (all.now.sources.now.outside.items ++ all.now.sources.now.below.items) path.now) }
 {
     match &diagnostic.wrong {
         Wrong::InFolders(folder, _) => has_way(all, path, folder.as_str()),
@@ -495,7 +529,9 @@ fn is_mended<F: Files>(
 }
 
 /// Whether another file re-includes a folder, by its path in the folder of a file.
-fn has_way<F: Files>(all: &Linting<'_, '_, F>, path: &str, folder: &str) -> Result<bool, Error> {
+fn has_way<F: Files>(all: &Linting<'_, '_, F>, path: &str, folder: &str) -> Result<bool, Error>
+    ensures { IfOk result (λ found. found ≡ true → HasOther (all.now.sources.now.outside.items ++ all.now.sources.now.below.items) path.now) }
+{
     let (outside, below) = (&all.sources.outside, &all.sources.below);
     let options = all.how.options;
     if is_reincluded(all.world, options, outside, path, folder)? {
@@ -512,8 +548,9 @@ fn report_wanting<E: Write>(
     refused: Option<Refused>,
     err: &mut E,
 ) -> Result<bool, Stop>
-    ensures { IfOk result (λ reported. (reported ≡ (is_some fault || is_some refused))
+    ensures reports { IfOk result (λ reported. (reported ≡ (is_some fault || is_some refused))
         × Appends (E.contents err.old) (E.contents err.new) (wanting path.now fault refused)) }
+    ensures ended { IfErr result (λ stop. stop ≡ Stop.Silence) }
 {
     if let Some(fault) = fault {
         report_fault(path, fault, err)?;
@@ -542,7 +579,8 @@ fn unjudged_text(refused: Refused) -> &'static str
 
 /// Reports a fault of a file.
 fn report_fault<E: Write>(path: &str, fault: Fault, err: &mut E) -> Result<(), Stop>
-    ensures { OnOk result (Appends (E.contents err.old) (E.contents err.new) (fault_line path.now fault)) }
+    ensures reports { OnOk result (Appends (E.contents err.old) (E.contents err.new) (fault_line path.now fault)) }
+    ensures ended { IfErr result (λ stop. stop ≡ Stop.Silence) }
 {
     match writeln!(err, "ig: {path}: {fault}") {
         Ok(()) => Ok(()),
@@ -551,14 +589,15 @@ fn report_fault<E: Write>(path: &str, fault: Fault, err: &mut E) -> Result<(), S
 }
 
 /// Writes what is wrong with a line of a file, unless nothing is to be written.
-fn write_found<W: Write>(
+fn write_found<W: Output>(
     alloc: Global,
     how: How<'_>,
     path: &str,
     found: &Diagnostic,
     out: &mut W,
 ) -> Result<(), Stop>
-    ensures { OnOk result (Appends (W.contents out.old) (W.contents out.new) (finding_text how.entry.options.now how.entry.json path.now found.now)) }
+    ensures writes { OnOk result (Appends (W.contents out.old) (W.contents out.new) (finding_text how.entry.options.now how.entry.json path.now found.now)) }
+    ensures said { IfErr result (SaidBy (W.fails out.new)) }
 {
     if how.options.quiet {
         return Ok(());
@@ -571,14 +610,15 @@ fn write_found<W: Write>(
 }
 
 /// Writes what is wrong with a line of a file, as an object of JSON.
-fn write_json<W: Write>(
+fn write_json<W: Output>(
     alloc: Global,
     null: bool,
     path: &str,
     found: &Diagnostic,
     out: &mut W,
 ) -> Result<(), Stop>
-    ensures { OnOk result (Appends (W.contents out.old) (W.contents out.new) (finding_json path.now found.now ++ at_end null)) }
+    ensures writes { OnOk result (Appends (W.contents out.old) (W.contents out.new) (finding_json path.now found.now ++ at_end null)) }
+    ensures said { IfErr result (SaidBy (W.fails out.new)) }
 {
     match json_of(alloc, path, found) {
         Ok(text) => write_record(null, text.as_str(), out),
@@ -587,14 +627,15 @@ fn write_json<W: Write>(
 }
 
 /// Writes what is wrong with a line of a file, by its fields.
-fn write_line<W: Write>(
+fn write_line<W: Output>(
     alloc: Global,
     null: bool,
     path: &str,
     found: &Diagnostic,
     out: &mut W,
 ) -> Result<(), Stop>
-    ensures { OnOk result (Appends (W.contents out.old) (W.contents out.new) (finding_fields null path.now found.now)) }
+    ensures writes { OnOk result (Appends (W.contents out.old) (W.contents out.new) (finding_fields null path.now found.now)) }
+    ensures said { IfErr result (SaidBy (W.fails out.new)) }
 {
     let Ok(text) = text_of(alloc, &found.wrong) else {
         return Err(Stop::Memory);
@@ -604,15 +645,16 @@ fn write_line<W: Write>(
 }
 
 /// Writes a text, and what a record ends in.
-fn write_record<W: Write>(null: bool, text: &str, out: &mut W) -> Result<(), Stop>
-    ensures { OnOk result (Appends (W.contents out.old) (W.contents out.new) (text.now ++ at_end null)) }
+fn write_record<W: Output>(null: bool, text: &str, out: &mut W) -> Result<(), Stop>
+    ensures writes { OnOk result (Appends (W.contents out.old) (W.contents out.new) (text.now ++ at_end null)) }
+    ensures said { IfErr result (SaidBy (W.fails out.new)) }
 {
     write_bytes(text.as_bytes(), out)?;
     write_bytes(if null { b"\0" } else { b"\n" }, out)
 }
 
 /// Writes the fields of what is wrong with a line, of which this is the text.
-fn write_fields<W: Write>(
+fn write_fields<W: Output>(
     form: Form<'_>,
     path: &str,
     found: &Diagnostic,
@@ -620,7 +662,8 @@ fn write_fields<W: Write>(
     out: &mut W,
 ) -> Result<(), Stop>
     requires { text.now ≡ wrong_text found.now.wrong }
-    ensures { OnOk result (Appends (W.contents out.old) (W.contents out.new) (finding_fields form.entry.null path.now found.now)) }
+    ensures writes { OnOk result (Appends (W.contents out.old) (W.contents out.new) (finding_fields form.entry.null path.now found.now)) }
+    ensures said { IfErr result (SaidBy (W.fails out.new)) }
 {
     write_text(form, path, out)?;
     write_between(form, out)?;
@@ -632,8 +675,9 @@ fn write_fields<W: Write>(
 }
 
 /// Writes what separates the fields after the number of a line.
-fn write_after_line<W: Write>(form: Form<'_>, out: &mut W) -> Result<(), Stop>
-    ensures { OnOk result (Appends (W.contents out.old) (W.contents out.new) (after_line form.entry.null)) }
+fn write_after_line<W: Output>(form: Form<'_>, out: &mut W) -> Result<(), Stop>
+    ensures writes { OnOk result (Appends (W.contents out.old) (W.contents out.new) (after_line form.entry.null)) }
+    ensures said { IfErr result (SaidBy (W.fails out.new)) }
 {
     let between: &[u8] = if form.null { b"\0" } else { b": " };
     write_bytes(between, out)

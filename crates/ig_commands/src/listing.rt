@@ -4,22 +4,14 @@ ghost use Rattle.std.specs.Io.KnownBytes.{Appends};
 ghost use Rattle.std.specs.Iterator.{Drains, IsFinite, YieldsThen};
 ghost use Rattle.std.specs.List.{flat_map, list_any};
 ghost use Rattle.ignore_base.specs.Problem.{memory, problem_of};
-ghost use Rattle.ignore_base.specs.Text.{Path};
 ghost use Rattle.ignore_base.specs.declared.error.Error.{Error};
-ghost use Rattle.ignore_dir.specs.Load.{AreLoads, Loaded};
-ghost use Rattle.ignore_dir.specs.declared.outside.Outside.{Outside};
-ghost use Rattle.ignore_files.specs.Gives.{IsHonest};
-ghost use Rattle.ignore_files.specs.Tree.{Tree};
 ghost use Rattle.ignore_walk.specs.Entry.{Item, entry_of, item_of, problem_in};
-ghost use Rattle.ignore_walk.specs.GoesOn.{HasNoEnd};
 ghost use Rattle.ignore_walk.specs.declared.entry.DirEntry.{DirEntry};
-ghost use Rattle.ig_options.specs.Settings.{most_steps};
 ghost use Rattle.ig_commands.specs.Folders.{last_in};
-ghost use Rattle.ig_commands.specs.Listing.{AreBegun, AreFirst, AreListed, Begins, EndsAsked, GoesBy, Lists, ListsAsked, Writes, begun_reports, listing};
+ghost use Rattle.ig_commands.specs.Listing.{AreBegunOf, AreFirstOf, AreListedOf, EndsAsked, Lists, ListsAsked, Writes, begun_reports};
 ghost use Rattle.ig_commands.specs.Names.{still, told_at, told_before, with_name};
 ghost use Rattle.ig_commands.specs.Reports.{Notes, fault_names, fault_told, first_reports, is_known, is_reported, name_depth, names_after, names_left, place_at, report_of, reports_of, to_report, whole_reports};
-ghost use Rattle.ig_commands.specs.Stops.{EndsAfter};
-ghost use Rattle.ig_commands.specs.Walked.{AreFirstWalked, AreWalked, IsFor, IsWalkOf};
+ghost use Rattle.ig_commands.specs.Stops.{EndsAfter, IsOther, SaidBy};
 ghost use Rattle.ig_commands.specs.Writing.{is_found, is_listed, lines_of};
 
 use crate::asking::{Asked, asked_for};
@@ -29,19 +21,20 @@ use crate::names::{Unnamed, count_name, end_names, leave_names};
 use crate::reports::{name_depth, place_at, report_all, report_fault, report_rules};
 use crate::stop::Stop;
 use crate::writing::{is_listed, refuse_or_end, write_path};
-use commands::World;
-use commands::internal::{ByName, trimmed_roots};
+use commands::internal::prepare_list;
+use commands::{Output, World};
 use ig_options::Options;
-use ignore::{WalkBuilder, WalkOptions};
+use ignore::walk_laws::{
+    a_builder_without_closures, a_finished_walk_has_no_other_list, a_finished_walk_is_the_headline,
+    a_run_begins_the_list, a_run_yields_the_list, only_the_last_item_ends,
+};
+use ignore::{Owner, WalkBuilder, WalkOptions};
 use ignore_base::Error;
 use ignore_files::{FileType, Files};
 use ignore_types::types::TypesBuilder;
-use ignore_walk::{Callbacks, DirEntry, Ground, Item, Walk, runs};
+use ignore_walk::{DirEntry, Item};
 use std::alloc::Global;
 use std::io::Write;
-
-/// How many steps a walk may take.
-const MOST_STEPS: u64 = 1_000_000_000;
 
 /// Writes the paths of the entries of the walk that the options ask for. `first` has the file types
 /// that exist without `--type-add`. What is wrong with an entry, or stands in its place, is reported
@@ -51,7 +44,7 @@ const MOST_STEPS: u64 = 1_000_000_000;
 ///
 /// # Errors
 /// Why it ended early, of which nothing was reported.
-pub fn list<F: Files, W: Write, E: Write>(
+pub fn list<F: Files, W: Output, E: Write>(
     world: &World<'_, F>,
     options: &Options,
     first: TypesBuilder,
@@ -62,6 +55,7 @@ pub fn list<F: Files, W: Write, E: Write>(
         (Appends (W.contents out.old) (W.contents out.new)) (Appends (E.contents err.old) (E.contents err.new))) }
     ensures ended { IfErr result (EndsAsked F.Files world.now.files.now world.now.env.now options.now first
         (Appends (W.contents out.old) (W.contents out.new)) (Appends (E.contents err.old) (E.contents err.new))) }
+    ensures said { IfErr result (SaidBy (W.fails out.new)) }
 {
     match asked_for(world, options, first) {
         Ok(asked) => report_and_walk(world, options, asked, out, err),
@@ -70,7 +64,7 @@ pub fn list<F: Files, W: Write, E: Write>(
 }
 
 /// Reports what is wrong with the files that are named, lists, and reports the counts.
-fn report_and_walk<F: Files, W: Write, E: Write>(
+fn report_and_walk<F: Files, W: Output, E: Write>(
     world: &World<'_, F>,
     options: &Options,
     asked: Asked,
@@ -79,12 +73,11 @@ fn report_and_walk<F: Files, W: Write, E: Write>(
 ) -> Result<u8, Stop>
     ensures lists { IfOk result (λ status. (items : List Item) × Lists options.now (map (option_map problem_of) asked.errors.items) items
         status (Appends (W.contents out.old) (W.contents out.new)) (Appends (E.contents err.old) (E.contents err.new))
-        × (IsFor options.now asked.walk → AreWalked F.Files world.now.files.now world.now.env.now options.now asked.walk items)
-        × ((tree : Tree) → IsHonest F.Files world.now.files.now tree → AreListed tree world.now.env.now options.now asked.walk items)) }
+        × AreListedOf F.Files world.now.files.now world.now.env.now options.now asked.walk items) }
     ensures ended { IfErr result (λ stop. (items : List Item) × EndsAfter (flat_map (lines_of options.now) items)
         (begun_reports options.now (map (option_map problem_of) asked.errors.items) items) (Appends (W.contents out.old) (W.contents out.new)) (Appends (E.contents err.old) (E.contents err.new)) stop
-        × (IsFor options.now asked.walk → AreFirstWalked F.Files world.now.files.now world.now.env.now options.now asked.walk items)
-        × ((tree : Tree) → IsHonest F.Files world.now.files.now tree → AreFirst tree world.now.env.now options.now asked.walk items)) }
+        × AreFirstOf F.Files world.now.files.now world.now.env.now options.now asked.walk items) }
+    ensures said { IfErr result (SaidBy (W.fails out.new)) }
 {
     let reported = report_all(&asked.errors, err)?;
     let counts = walk_and_write(world, options, asked.walk, out, err)?;
@@ -97,66 +90,37 @@ fn report_and_walk<F: Files, W: Write, E: Write>(
 }
 
 /// Walks and writes.
-fn walk_and_write<F: Files, W: Write, E: Write>(
+fn walk_and_write<F: Files, W: Output, E: Write>(
     world: &World<'_, F>,
     options: &Options,
-    walk: WalkOptions,
+    mut walk: WalkOptions,
     out: &mut W,
     err: &mut E,
 ) -> Result<Counts, Stop>
     ensures lists { IfOk result (λ counts. (items : List Item) × Writes options.now items (whole_reports options.now items) counts.reported counts.found (Appends (W.contents out.old) (W.contents out.new)) (Appends (E.contents err.old) (E.contents err.new))
-        × (IsFor options.now walk → AreWalked F.Files world.now.files.now world.now.env.now options.now walk items)
-        × ((tree : Tree) → IsHonest F.Files world.now.files.now tree → AreListed tree world.now.env.now options.now walk items)) }
+        × AreListedOf F.Files world.now.files.now world.now.env.now options.now walk items) }
     ensures ended { IfErr result (λ stop. (items : List Item) × EndsAfter (flat_map (lines_of options.now) items)
         (first_reports options.now items) (Appends (W.contents out.old) (W.contents out.new)) (Appends (E.contents err.old) (E.contents err.new)) stop
-        × (IsFor options.now walk → AreFirstWalked F.Files world.now.files.now world.now.env.now options.now walk items)
-        × ((tree : Tree) → IsHonest F.Files world.now.files.now tree → AreBegun tree world.now.env.now options.now walk items)) }
+        × AreBegunOf F.Files world.now.files.now world.now.env.now options.now walk items) }
+    ensures said { IfErr result (SaidBy (W.fails out.new)) }
 {
-    let Ok(steps) = walk_of(world, options, walk) else {
+    let Ok(()) = prepare_list(world.alloc, &options.roots, &mut walk) else {
         return Err(Stop::Memory);
     };
-    runs::a_run_yields_the_list::<F, ByName>();
-    runs::a_finished_run_is_a_list::<F, ByName>();
-    runs::only_the_last_item_ends::<F, ByName>();
-    runs::a_run_begins_the_list::<F, ByName>();
+    let builder = WalkBuilder::from_options(walk);
+    let lent = &builder;
+    let Ok(steps) = lent.build(world.files, world.env) else {
+        return Err(Stop::Memory);
+    };
+    a_builder_without_closures(lent);
+    a_finished_walk_is_the_headline::<F, Owner<'static>>();
+    a_finished_walk_has_no_other_list::<F, Owner<'static>>();
+    only_the_last_item_ends::<F, Owner<'static>>();
+    a_run_yields_the_list::<F, Owner<'static>>();
+    a_run_begins_the_list::<F, Owner<'static>>();
     let walked = write_items(steps, options, world.alloc, out, err)?;
     end_names(&walked.names, err)?;
     Ok(walked.counts)
-}
-
-/// The walk of the roots by these settings.
-fn walk_of<'a, F: Files>(
-    world: &World<'a, F>,
-    options: &Options,
-    walk: WalkOptions,
-) -> Result<Walk<'a, F, ByName>, Error>
-    ensures walks { (tree : Tree) → IsHonest F.Files world.now.files.now tree
-        → IfOk result (λ w. (roots : List Path) × (outside : Outside) × GoesBy tree world.now.env.now options.now walk roots outside
-        × ((loads : Path → Loaded) → AreLoads tree walk.settings loads
-        → Begins F.Files ⟦<ByName as Callbacks>⟧ (listing options.now walk tree loads outside) w roots)) }
-    ensures goes_by { IsFor options.now walk → IfOk result (IsWalkOf F.Files world.now.files.now world.now.env.now options.now walk) }
-    ensures no_end { IfOk result (λ w. HasNoEnd w.stack) }
-    ensures limit { IfOk result (λ w. w.left ≡ most_steps) }
-    ensures goes_on { IfOk result (λ w. w.ended ≡ false) }
-{
-    let names = trimmed_roots(world.alloc, &options.roots)?;
-    let walk_options = ignore_walk::Options {
-        order: options.order,
-        same_file_system: options.one_file_system,
-        limit: MOST_STEPS,
-    };
-    let builder = WalkBuilder::from_options(walk);
-    let settings = builder.settings().clone()?;
-    let outside = builder.outside(world.files, world.env)?;
-    let ground = Ground {
-        alloc: world.alloc,
-        files: world.files,
-        owner: ByName,
-        settings,
-        outside,
-        options: walk_options,
-    };
-    Ok(Walk::new(ground, names))
 }
 
 /// What was counted in a walk: what was found and reported, and the names that aren't UTF-8 which are
@@ -191,7 +155,7 @@ impl Met {
 }
 
 /// Writes the items of a walk.
-fn write_items<I: Iterator<Item = Item>, W: Write, E: Write>(
+fn write_items<I: Iterator<Item = Item>, W: Output, E: Write>(
     items: I,
     options: &Options,
     alloc: Global,
@@ -205,6 +169,7 @@ fn write_items<I: Iterator<Item = Item>, W: Write, E: Write>(
     ensures ended { IfErr result (λ stop. (all : List (Result DirEntry Error)) × (x : Result DirEntry Error) × (v : I)
         × YieldsThen I.next_gives items all (Some x) v
         × EndsAfter (flat_map (lines_of options.now) (map item_of all)) (first_reports options.now (map item_of all)) (Appends (W.contents out.old) (W.contents out.new)) (Appends (E.contents err.old) (E.contents err.new)) stop) }
+    ensures said { IfErr result (SaidBy (W.fails out.new)) }
 {
     let mut met = Met::new(alloc);
     let mut counts = Counts::begun(0);
@@ -220,7 +185,8 @@ fn write_items<I: Iterator<Item = Item>, W: Write, E: Write>(
 
 /// Writes an item, and notes it: an entry as the last one at its depth, and a name that isn't UTF-8 as
 /// one more.
-fn write_item<W: Write, E: Write>(
+#[tactic(auto, using(crate::proofs::StopLemmas::other_said))]
+fn write_item<W: Output, E: Write>(
     item: Item,
     options: &Options,
     met: &mut Met,
@@ -235,6 +201,7 @@ fn write_item<W: Write, E: Write>(
     ensures ended { IfErr result (EndsAfter [] [] (Appends (W.contents out.old) (W.contents out.new)) (Appends (E.contents err.old) (E.contents err.new))) }
     ensures enough { OnOk result (item_of item ≢ Err memory) }
     ensures cause { item_of item ≡ Err memory → IfErr result (λ stop. stop ≡ Stop.Memory) }
+    ensures said { IfErr result (SaidBy (W.fails out.new)) }
 {
     match item {
         Ok(entry) => note_and_write(entry, options, met, out, err),
@@ -250,7 +217,7 @@ fn write_item<W: Write, E: Write>(
 }
 
 /// Notes an entry as the last one at its depth, and writes it.
-fn note_and_write<W: Write, E: Write>(
+fn note_and_write<W: Output, E: Write>(
     entry: DirEntry,
     options: &Options,
     met: &mut Met,
@@ -263,6 +230,7 @@ fn note_and_write<W: Write, E: Write>(
     ensures notes { OnOk result (Notes (item_of (Ok entry)) (last_in met.old.folders) (last_in met.new.folders)) }
     ensures names { OnOk result (met.new.names ≡ names_after (last_in met.old.folders) met.old.names (item_of (Ok entry))) }
     ensures ended { IfErr result (EndsAfter [] [] (Appends (W.contents out.old) (W.contents out.new)) (Appends (E.contents err.old) (E.contents err.new))) }
+    ensures said { IfErr result (SaidBy (W.fails out.new)) }
 {
     let depth = entry.depth();
     let Ok(()) = met.folders.note(entry) else {
@@ -280,6 +248,7 @@ fn note_fault<E: Write>(error: &Error, met: &mut Met, err: &mut E) -> Result<(),
     ensures names { OnOk result (met.new.names ≡ fault_names (last_in met.old.folders) met.old.names (name_depth (problem_of error.now))) }
     ensures folders { met.new.folders ≡ met.old.folders }
     ensures ended { IfErr result (EndsAfter [] [] (λ bs. bs ≡ []) (Appends (E.contents err.old) (E.contents err.new))) }
+    ensures other { IfErr result IsOther }
 {
     match name_depth(error) {
         None => report_fault(error, &met.folders, err),
@@ -293,6 +262,7 @@ fn note_name<E: Write>(depth: usize, met: &mut Met, err: &mut E) -> Result<(), S
     ensures names { OnOk result (met.new.names ≡ Some (with_name (place_at (last_in met.old.folders) depth) depth met.old.names)) }
     ensures folders { met.new.folders ≡ met.old.folders }
     ensures ended { IfErr result (EndsAfter [] [] (λ bs. bs ≡ []) (Appends (E.contents err.old) (E.contents err.new))) }
+    ensures other { IfErr result IsOther }
 {
     let Ok(place) = place_at(met.alloc, &met.folders, depth) else {
         return Err(Stop::Memory);
@@ -302,7 +272,7 @@ fn note_name<E: Write>(depth: usize, met: &mut Met, err: &mut E) -> Result<(), S
 
 /// Writes an entry, where it is listed, and reports the names of a folder that is left, and its
 /// problem, if it has one.
-fn write_entry<W: Write, E: Write>(
+fn write_entry<W: Output, E: Write>(
     entry: &DirEntry,
     options: &Options,
     names: &mut Option<Unnamed>,
@@ -314,6 +284,7 @@ fn write_entry<W: Write, E: Write>(
         × (seen.reported ≡ is_known (to_report options.now (problem_in entry.now))) × (seen.found ≡ is_listed options.now (entry_of entry.now).kind)) }
     ensures names { OnOk result (names.new ≡ still (entry_of entry.now).depth names.old) }
     ensures ended { IfErr result (EndsAfter [] [] (Appends (W.contents out.old) (W.contents out.new)) (Appends (E.contents err.old) (E.contents err.new))) }
+    ensures said { IfErr result (SaidBy (W.fails out.new)) }
 {
     let found = is_listed(options, entry.file_type());
     if found && !options.quiet {

@@ -1,4 +1,6 @@
 //! How files of rules stand to each other.
+ghost use Rattle.std.specs.Prelude.{◌≡◌, IfOk, true};
+ghost use Rattle.ig_commands.specs.Lint.{HasOther};
 
 use crate::sides::how_read;
 use crate::sources::rank_of;
@@ -13,8 +15,9 @@ use ignore_rules::gitignore::Gitignore;
 /// The exclude file of a repository, from its folder.
 const EXCLUDE: &str = ".git/info/exclude";
 
-/// Whether one of these files whitelists a folder, by its path in the folder of a file that ignores it,
-/// and counts before that file: it has a higher rank, or the same one and lies below.
+/// Whether one of these files but the file itself whitelists a folder, by its path in the folder of a
+/// file that ignores it, and counts before that file: it has a higher rank, or the same one and lies
+/// below.
 ///
 /// # Errors
 /// `Error::Memory` alone.
@@ -24,12 +27,17 @@ pub(crate) fn is_reincluded<F: Files>(
     others: &[Name],
     file: &str,
     folder: &str,
-) -> Result<bool, Error> {
+) -> Result<bool, Error>
+    ensures { IfOk result (λ found. found ≡ true → HasOther others.now file.now) }
+{
     let base = base_of(world, options, file)?;
     let path = join(world.alloc, base.as_str(), folder)?;
     let rank = rank_of(options, file);
     for other in others {
         let other = other.as_str();
+        if other == file {
+            continue;
+        }
         let here = base_of(world, options, other)?;
         if is_before(rank_of(options, other), here.as_str(), rank, base.as_str()) {
             let Some(rest) = below(here.as_str(), path.as_str()) else {

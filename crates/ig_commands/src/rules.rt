@@ -11,15 +11,15 @@ ghost use Rattle.ig_commands.specs.Counts.{capped};
 ghost use Rattle.ig_commands.specs.Form.{at_end, rule_fields};
 ghost use Rattle.ig_commands.specs.Rules.{Adds, AreWithout, Grows, alone_at, file_rule, is_free, left_of, rule_at, rule_line};
 ghost use Rattle.ig_commands.specs.Unused.{FileRule};
-ghost use Rattle.ig_commands.specs.Stops.{IsUnwritten};
+ghost use Rattle.ig_commands.specs.Stops.{IsUnwritten, SaidBy};
 
 use crate::form::{Form, Origin, write_rule};
 use crate::stop::Stop;
 use crate::writing::write_bytes;
+use commands::Output;
 use ignore_why::NamedRule;
 use std::alloc::{AllocError, Global};
 use std::collections::BTreeMap;
-use std::io::Write;
 
 /// The rules of a file, by the numbers of their lines.
 type File = BTreeMap<u64, String>;
@@ -97,7 +97,7 @@ impl FileRules {
 
     /// Writes the rules of these that aren't among others, in the order of the paths of their files
     /// and of their lines, where `is_written` says so. It returns how many there are.
-    pub(crate) fn write_without<W: Write>(
+    pub(crate) fn write_without<W: Output>(
         &self,
         others: &FileRules,
         form: Form<'_>,
@@ -107,6 +107,7 @@ impl FileRules {
         ensures writes { IfOk result (λ count. (all : List FileRule) × AreWithout self.now others.now all × (count ≡ capped (length all))
             × Appends (W.contents out.old) (W.contents out.new) (flat_map (rule_line (option_copied form.entry.base) form.entry.null is_written) all)) }
         ensures ended { IfErr result IsUnwritten }
+        ensures said { IfErr result (SaidBy (W.fails out.new)) }
     {
         let others = Without {
             others,
@@ -141,7 +142,7 @@ struct Without<'a> {
 }
 
 /// Writes the rules of a file that aren't left out. It returns how many there are.
-fn write_file<W: Write>(
+fn write_file<W: Output>(
     without: Without<'_>,
     source: &str,
     file: &File,
@@ -152,6 +153,7 @@ fn write_file<W: Write>(
         (flat_map (rule_line (option_copied without.entry.form.base) without.entry.form.null without.entry.is_written) (left_of without.entry.others.now source.now file.now.entries))) }
     ensures ordered { IsOrdered nat_cmp file.now }
     ensures ended { IfErr result IsUnwritten }
+    ensures said { IfErr result (SaidBy (W.fails out.new)) }
 {
     let mut count = 0u64;
     for (line, pattern) in file {
@@ -162,7 +164,7 @@ fn write_file<W: Write>(
 }
 
 /// Writes a rule at a line of a file, unless it is left out. It returns whether it isn't.
-fn write_left<W: Write>(
+fn write_left<W: Output>(
     without: Without<'_>,
     source: &str,
     line: u64,
@@ -173,6 +175,7 @@ fn write_left<W: Write>(
         × Appends (W.contents out.old) (W.contents out.new) (if is_left
         then rule_line (option_copied without.entry.form.base) without.entry.form.null without.entry.is_written (file_rule source.now line pattern.now) else [])) }
     ensures ended { IfErr result IsUnwritten }
+    ensures said { IfErr result (SaidBy (W.fails out.new)) }
 {
     if without.others.has(source, line) {
         return Ok(false);
@@ -189,10 +192,11 @@ fn write_left<W: Write>(
 }
 
 /// Writes a rule, and what it ends in.
-fn write_line<W: Write>(form: Form<'_>, origin: &Origin<'_>, out: &mut W) -> Result<(), Stop>
+fn write_line<W: Output>(form: Form<'_>, origin: &Origin<'_>, out: &mut W) -> Result<(), Stop>
     ensures writes { OnOk result (Appends (W.contents out.old) (W.contents out.new)
         (rule_fields (option_copied form.entry.base) form.entry.null origin.now.source.now origin.now.line origin.now.pattern.now ++ at_end form.entry.null)) }
     ensures ended { IfErr result IsUnwritten }
+    ensures said { IfErr result (SaidBy (W.fails out.new)) }
 {
     write_rule(form, origin, out)?;
     write_bytes(if form.null { b"\0" } else { b"\n" }, out)

@@ -4,7 +4,7 @@ ghost use Rattle.std.specs.Io.KnownBytes.{Appends, Keeps};
 ghost use Rattle.ignore_base.specs.Problem.{memory, problem_of};
 ghost use Rattle.ig_commands.specs.Listing.{RefusesOptions};
 ghost use Rattle.ig_commands.specs.Run.{Does, DoesBy, DoesTold, Ends, EndsBefore, EndsBy, EndsTold, Finishes, Runs, Shows, types_at_first};
-ghost use Rattle.ig_commands.specs.Stops.{EndsAfter, IsUnwritten, reason, stop_status};
+ghost use Rattle.ig_commands.specs.Stops.{EndsAfter, IsUnwritten, SaidBy, reason, stop_status};
 ghost use Rattle.ig_options.specs.declared.options.Options.{Options};
 
 use crate::asking::{check_options, default_types};
@@ -19,7 +19,7 @@ use crate::unused::list_unused;
 use crate::why::why;
 use crate::writing::{refuse_or_end, write_stop};
 use clap::error::ErrorKind;
-use commands::World;
+use commands::{Output, World};
 use ig_options::{Options, Task, hint_of, read_words};
 use ignore_base::Error;
 use ignore_files::{Fault, Files, Refusal};
@@ -43,16 +43,17 @@ pub struct Ran {
 ///
 /// # Errors
 /// Why the run ended, where that can't be written to `err`.
-pub fn run<F: Files, R: BufRead + Drop, W: Write, E: Write>(
+pub fn run<F: Files, R: BufRead + Drop, W: Output, E: Write>(
     world: &World<'_, F>,
     words: &[String],
     input: R,
     out: &mut W,
     err: &mut E,
 ) -> Result<Ran, Stop>
-    ensures runs { IfOk result (λ ran. Runs F.Files world.now.files.now world.now.env.now (R.remaining input) ran.status ran.is_timed
+    ensures runs { IfOk result (λ ran. Runs F.Files world.now.files.now world.now.env.now (R.remaining input) (W.fails out.new) ran.status ran.is_timed
         (W.contents out.old) (W.contents out.new) (E.contents err.old) (E.contents err.new)) }
     ensures unreported { IfErr result (λ stop. stop ≢ Stop.Closed) }
+    ensures said { IfErr result (SaidBy (W.fails out.new)) }
 {
     match read_task(world, words) {
         Ok((task, options)) => {
@@ -67,7 +68,7 @@ pub fn run<F: Files, R: BufRead + Drop, W: Write, E: Write>(
 }
 
 /// Runs a command, and ends it.
-fn run_timed<F: Files, R: BufRead + Drop, W: Write, E: Write>(
+fn run_timed<F: Files, R: BufRead + Drop, W: Output, E: Write>(
     world: &World<'_, F>,
     call: &Call<'_>,
     input: R,
@@ -77,24 +78,30 @@ fn run_timed<F: Files, R: BufRead + Drop, W: Write, E: Write>(
     ensures runs { IfOk result (λ ran. (ran.is_timed ≡ call.now.options.now.stats)
         × Finishes (DoesTold call.now.options.now.no_messages F.Files world.now.files.now world.now.env.now call.now.options.now types_at_first call.now.task (R.remaining input))
         (EndsTold call.now.options.now.no_messages F.Files world.now.files.now world.now.env.now call.now.options.now types_at_first call.now.task (R.remaining input))
-        ran.status (W.contents out.old) (W.contents out.new) (E.contents err.old) (E.contents err.new)) }
+        (W.fails out.new) ran.status (W.contents out.old) (W.contents out.new) (E.contents err.old) (E.contents err.new)) }
     ensures unreported { IfErr result (λ stop. stop ≢ Stop.Closed) }
+    ensures said { IfErr result (SaidBy (W.fails out.new)) }
 {
     let ended = run_told(world, call, input, out, err);
     end_run(ended, call.options.stats, out, err)
 }
 
 /// Writes what the parser of words has to say, and ends the run.
-fn run_shown<W: Write, E: Write>(error: &clap::Error, out: &mut W, err: &mut E) -> Result<Ran, Stop>
-    ensures runs { IfOk result (λ ran. Finishes Shows EndsBefore ran.status (W.contents out.old) (W.contents out.new) (E.contents err.old) (E.contents err.new)) }
+fn run_shown<W: Output, E: Write>(
+    error: &clap::Error,
+    out: &mut W,
+    err: &mut E,
+) -> Result<Ran, Stop>
+    ensures runs { IfOk result (λ ran. Finishes Shows EndsBefore (W.fails out.new) ran.status (W.contents out.old) (W.contents out.new) (E.contents err.old) (E.contents err.new)) }
     ensures unreported { IfErr result (λ stop. stop ≢ Stop.Closed) }
+    ensures said { IfErr result (SaidBy (W.fails out.new)) }
 {
     let ended = show(error, out, err);
     end_run(ended, false, out, err)
 }
 
 /// How a run ends that has returned its status, or why it ended early.
-fn end_run<W: Write, E: Write>(
+fn end_run<W: Output, E: Write>(
     ended: Result<u8, Stop>,
     is_timed: bool,
     out: &mut W,
@@ -102,12 +109,14 @@ fn end_run<W: Write, E: Write>(
 ) -> Result<Ran, Stop>
     ensures kept { IfOk ended (λ given. IfOk result (λ ran. ((ran.status ≡ given) × (E.contents err.new ≡ E.contents err.old))
         ⊎ ((stop : Stop) × IsUnwritten stop × (ran.status ≡ stop_status stop)
-        × Appends (E.contents err.old) (E.contents err.new) (reason stop)))) }
+        × Appends (E.contents err.old) (E.contents err.new) (reason stop) × SaidBy (W.fails out.new) stop))) }
     ensures reported { IfErr ended (λ stop. IfOk result (λ ran. (ran.status ≡ stop_status stop)
         × Appends (E.contents err.old) (E.contents err.new) (reason stop))) }
     ensures unreported { IfErr result (λ stop. stop ≢ Stop.Closed) }
     ensures written { Keeps (W.contents out.old) (W.contents out.new) }
     ensures timed { IfOk result (λ ran. ran.is_timed ≡ is_timed) }
+    ensures still { IfErr ended (λ stop. SaidBy (W.fails out.old) stop → SaidBy (W.fails out.new) stop) }
+    ensures said { IfErr ended (SaidBy (W.fails out.old)) → IfErr result (SaidBy (W.fails out.new)) }
 {
     let status = finish(ended, out, err)?;
     Ok(Ran { status, is_timed })
@@ -118,18 +127,20 @@ fn end_run<W: Write, E: Write>(
 ///
 /// # Errors
 /// Why it ended, where that can't be written to `err`.
-pub fn finish<W: Write, E: Write>(
+pub fn finish<W: Output, E: Write>(
     ended: Result<u8, Stop>,
     out: &mut W,
     err: &mut E,
 ) -> Result<u8, Stop>
     ensures kept { IfOk ended (λ given. IfOk result (λ status. ((status ≡ given) × (E.contents err.new ≡ E.contents err.old))
         ⊎ ((stop : Stop) × IsUnwritten stop × (status ≡ stop_status stop)
-        × Appends (E.contents err.old) (E.contents err.new) (reason stop)))) }
+        × Appends (E.contents err.old) (E.contents err.new) (reason stop) × SaidBy (W.fails out.new) stop))) }
     ensures reported { IfErr ended (λ stop. IfOk result (λ status. (status ≡ stop_status stop)
         × Appends (E.contents err.old) (E.contents err.new) (reason stop))) }
     ensures unreported { IfErr result (λ stop. stop ≢ Stop.Closed) }
     ensures written { Keeps (W.contents out.old) (W.contents out.new) }
+    ensures still { IfErr ended (λ stop. SaidBy (W.fails out.old) stop → SaidBy (W.fails out.new) stop) }
+    ensures said { IfErr ended (SaidBy (W.fails out.old)) → IfErr result (SaidBy (W.fails out.new)) }
 {
     match flushed(ended, out) {
         Ok(status) => Ok(status),
@@ -138,15 +149,18 @@ pub fn finish<W: Write, E: Write>(
 }
 
 /// Writes what an output still keeps, after a command that didn't end early.
-fn flushed<W: Write>(ended: Result<u8, Stop>, out: &mut W) -> Result<u8, Stop>
+#[tactic(auto, using(crate::proofs::StopLemmas::said_as))]
+fn flushed<W: Output>(ended: Result<u8, Stop>, out: &mut W) -> Result<u8, Stop>
     ensures ended { IfErr ended (λ stop. result ≡ Err stop) }
     ensures status { IfOk ended (λ status. (result ≡ Ok status) ⊎ ((stop : Stop) × IsUnwritten stop × (result ≡ Err stop))) }
     ensures written { Keeps (W.contents out.old) (W.contents out.new) }
+    ensures still { IfErr ended (λ stop. SaidBy (W.fails out.old) stop → SaidBy (W.fails out.new) stop) }
+    ensures said { IfErr ended (SaidBy (W.fails out.old)) → IfErr result (SaidBy (W.fails out.new)) }
 {
     let status = ended?;
     match out.flush() {
         Ok(()) => Ok(status),
-        Err(error) => Err(write_stop(&error)),
+        Err(error) => Err(write_stop(error.kind())),
     }
 }
 
@@ -182,7 +196,7 @@ struct Call<'o> {
 }
 
 /// Runs a command, and reports what is wrong with what it reads unless that isn't asked for.
-fn run_told<F: Files, R: BufRead + Drop, W: Write, E: Write>(
+fn run_told<F: Files, R: BufRead + Drop, W: Output, E: Write>(
     world: &World<'_, F>,
     call: &Call<'_>,
     input: R,
@@ -193,6 +207,7 @@ fn run_told<F: Files, R: BufRead + Drop, W: Write, E: Write>(
         status (Appends (W.contents out.old) (W.contents out.new)) (Appends (E.contents err.old) (E.contents err.new))) }
     ensures ended { IfErr result (EndsTold call.now.options.now.no_messages F.Files world.now.files.now world.now.env.now call.now.options.now types_at_first call.now.task (R.remaining input)
         (Appends (W.contents out.old) (W.contents out.new)) (Appends (E.contents err.old) (E.contents err.new))) }
+    ensures said { IfErr result (SaidBy (W.fails out.new)) }
 {
     if call.options.no_messages {
         return run_untold(world, call, input, out, err);
@@ -201,7 +216,7 @@ fn run_told<F: Files, R: BufRead + Drop, W: Write, E: Write>(
 }
 
 /// Runs a command, and reports nothing but that its options are rejected.
-fn run_untold<F: Files, R: BufRead + Drop, W: Write, E: Write>(
+fn run_untold<F: Files, R: BufRead + Drop, W: Output, E: Write>(
     world: &World<'_, F>,
     call: &Call<'_>,
     input: R,
@@ -212,6 +227,7 @@ fn run_untold<F: Files, R: BufRead + Drop, W: Write, E: Write>(
         status (Appends (W.contents out.old) (W.contents out.new)) (Appends (E.contents err.old) (E.contents err.new))) }
     ensures ended { IfErr result (EndsTold true F.Files world.now.files.now world.now.env.now call.now.options.now types_at_first call.now.task (R.remaining input)
         (Appends (W.contents out.old) (W.contents out.new)) (Appends (E.contents err.old) (E.contents err.new))) }
+    ensures said { IfErr result (SaidBy (W.fails out.new)) }
 {
     match check_asked(world, call.options) {
         Ok(()) => run_call(world, call, input, out, &mut Nowhere),
@@ -220,7 +236,7 @@ fn run_untold<F: Files, R: BufRead + Drop, W: Write, E: Write>(
 }
 
 /// Runs a command, which reads standard input where the paths of `why` are to come from there.
-fn run_call<F: Files, R: BufRead + Drop, W: Write, E: Write>(
+fn run_call<F: Files, R: BufRead + Drop, W: Output, E: Write>(
     world: &World<'_, F>,
     call: &Call<'_>,
     input: R,
@@ -231,6 +247,7 @@ fn run_call<F: Files, R: BufRead + Drop, W: Write, E: Write>(
         status (Appends (W.contents out.old) (W.contents out.new)) (Appends (E.contents err.old) (E.contents err.new))) }
     ensures ended { IfErr result (EndsBy call.now.options.now.stdin F.Files world.now.files.now world.now.env.now call.now.options.now types_at_first call.now.task (R.remaining input)
         (Appends (W.contents out.old) (W.contents out.new)) (Appends (E.contents err.old) (E.contents err.new))) }
+    ensures said { IfErr result (SaidBy (W.fails out.new)) }
 {
     if call.options.stdin {
         return why_input(world, call.options, input, out, err);
@@ -261,7 +278,7 @@ impl Write for Nowhere {
 }
 
 /// Runs a command.
-fn run_task<F: Files, R: BufRead + Drop, W: Write, E: Write>(
+fn run_task<F: Files, R: BufRead + Drop, W: Output, E: Write>(
     world: &World<'_, F>,
     call: &Call<'_>,
     input: R,
@@ -272,6 +289,7 @@ fn run_task<F: Files, R: BufRead + Drop, W: Write, E: Write>(
         status (Appends (W.contents out.old) (W.contents out.new)) (Appends (E.contents err.old) (E.contents err.new))) }
     ensures ended { IfErr result (Ends F.Files world.now.files.now world.now.env.now call.now.options.now types_at_first call.now.task (R.remaining input)
         (Appends (W.contents out.old) (W.contents out.new)) (Appends (E.contents err.old) (E.contents err.new))) }
+    ensures said { IfErr result (SaidBy (W.fails out.new)) }
 {
     let options = call.options;
     let Ok(first) = default_types(world.alloc) else {
@@ -291,9 +309,11 @@ fn run_task<F: Files, R: BufRead + Drop, W: Write, E: Write>(
 
 /// Writes what the parser of words has to say: help and version to the output, mistakes to the
 /// errors.
-fn show<W: Write, E: Write>(error: &clap::Error, out: &mut W, err: &mut E) -> Result<u8, Stop>
+#[tactic(auto, using(crate::proofs::StopLemmas::said_as))]
+fn show<W: Output, E: Write>(error: &clap::Error, out: &mut W, err: &mut E) -> Result<u8, Stop>
     ensures shows { IfOk result (λ status. Shows status (Appends (W.contents out.old) (W.contents out.new)) (Appends (E.contents err.old) (E.contents err.new))) }
     ensures ended { IfErr result (EndsAfter [] [] (Appends (W.contents out.old) (W.contents out.new)) (Appends (E.contents err.old) (E.contents err.new))) }
+    ensures said { IfErr result (SaidBy (W.fails out.new)) }
 {
     if error.kind() == ErrorKind::OutOfMemory {
         return Err(Stop::Memory);
@@ -306,6 +326,6 @@ fn show<W: Write, E: Write>(error: &clap::Error, out: &mut W, err: &mut E) -> Re
     }
     match write!(out, "{error}") {
         Ok(()) => Ok(0),
-        Err(error) => Err(write_stop(&error)),
+        Err(error) => Err(write_stop(error.kind())),
     }
 }

@@ -10,7 +10,7 @@ ghost use Rattle.ignore_every.specs.declared.said.Difference.{Difference};
 ghost use Rattle.ig_commands.specs.Reports.{is_known, report_of};
 ghost use Rattle.ig_commands.specs.Same.{Compares, EndsComparing, IsInput, SameAsked, SameEnds, difference_text, differences_text, do_differ, is_fault, is_told, is_unopened, is_unread, refused_line, side, side_told, status_by, told, verdict_word};
 ghost use Rattle.ig_commands.specs.Sides.{AreRead};
-ghost use Rattle.ig_commands.specs.Stops.{EndsAfter, IsUnwritten};
+ghost use Rattle.ig_commands.specs.Stops.{EndsAfter, IsUnwritten, SaidBy};
 
 use crate::form::{Form, Origin, write_after, write_before, write_no_rule, write_rule};
 use crate::input::read_stop;
@@ -18,7 +18,7 @@ use crate::reports::{report_rules, report_some};
 use crate::sides::{Sides, given_at, read_sides, takes_input, wanted_by};
 use crate::stop::Stop;
 use crate::writing::write_bytes;
-use commands::World;
+use commands::{Output, World};
 use ig_every::{RulesRead, compare_rules, rule_in, shown};
 use ig_options::Options;
 use ignore_base::Error;
@@ -44,7 +44,7 @@ pub(crate) struct Asked<'o> {
 ///
 /// # Errors
 /// Why it ended early, of which nothing was reported.
-pub(crate) fn same<F: Files, R: BufRead + Drop, W: Write, E: Write>(
+pub(crate) fn same<F: Files, R: BufRead + Drop, W: Output, E: Write>(
     world: &World<'_, F>,
     asked: Asked<'_>,
     input: R,
@@ -55,6 +55,7 @@ pub(crate) fn same<F: Files, R: BufRead + Drop, W: Write, E: Write>(
         (Appends (W.contents out.old) (W.contents out.new)) (Appends (E.contents err.old) (E.contents err.new))) }
     ensures ended { IfErr result (SameEnds F.Files world.now.files.now asked.entry.options.now asked.entry.most (R.remaining input)
         (Appends (W.contents out.old) (W.contents out.new)) (Appends (E.contents err.old) (E.contents err.new))) }
+    ensures said { IfErr result (SaidBy (W.fails out.new)) }
 {
     let options = asked.options;
     let bytes = input_bytes(world.alloc, options, input)?;
@@ -84,7 +85,7 @@ fn input_bytes<R: BufRead + Drop>(
 }
 
 /// Reports what is wrong with the files, and compares.
-fn report_and_compare<W: Write, E: Write>(
+fn report_and_compare<W: Output, E: Write>(
     alloc: Global,
     asked: Asked<'_>,
     sides: &Sides,
@@ -93,6 +94,7 @@ fn report_and_compare<W: Write, E: Write>(
 ) -> Result<u8, Stop>
     ensures compares { IfOk result (λ status. Compares asked.entry.options.now asked.entry.most sides.now status (Appends (W.contents out.old) (W.contents out.new)) (Appends (E.contents err.old) (E.contents err.new))) }
     ensures ended { IfErr result (EndsComparing asked.entry.options.now asked.entry.most sides.now (Appends (W.contents out.old) (W.contents out.new)) (Appends (E.contents err.old) (E.contents err.new))) }
+    ensures said { IfErr result (SaidBy (W.fails out.new)) }
 {
     let options = asked.options;
     let reported = report_sides(options, sides, err)?;
@@ -181,6 +183,7 @@ fn report_side<E: Write>(options: &Options, side: &RulesRead, err: &mut E) -> Re
 fn refuse_comparison<E: Write>(options: &Options, refused: Refused, err: &mut E) -> Result<u8, Stop>
     ensures reports { IfOk result (λ status. (status ≡ 2)
         × Appends (E.contents err.old) (E.contents err.new) (refused_line options.now refused)) }
+    ensures known { IfOk result (λ status. refused ≢ Refused.Memory) }
     ensures ended { IfErr result (λ stop. (stop ≡ Stop.Memory) ⊎ (stop ≡ Stop.Silence)) }
     ensures kept { IfErr result (λ stop. stop ≡ Stop.Memory → Appends (E.contents err.old) (E.contents err.new) []) }
 {
@@ -204,7 +207,7 @@ fn do_differ(found: &[Difference]) -> bool
 }
 
 /// Writes each path at which two files differ, after what each says of it.
-fn write_differences<W: Write>(
+fn write_differences<W: Output>(
     alloc: Global,
     options: &Options,
     sides: &Sides,
@@ -214,6 +217,7 @@ fn write_differences<W: Write>(
     ensures writes { OnOk result (Appends (W.contents out.old) (W.contents out.new) (differences_text options.now sides.now found.now)) }
     ensures ended { IfErr result (λ stop. (done : List Difference) × (rest : List Difference) × (found.now ≡ done ++ rest)
         × EndsAfter (differences_text options.now sides.now done) [] (Appends (W.contents out.old) (W.contents out.new)) (λ bs. bs ≡ []) stop) }
+    ensures said { IfErr result (SaidBy (W.fails out.new)) }
 {
     for difference in found {
         write_difference(alloc, options, sides, difference, out)?;
@@ -222,7 +226,7 @@ fn write_differences<W: Write>(
 }
 
 /// Writes a path at which two files differ, after what each says of it.
-fn write_difference<W: Write>(
+fn write_difference<W: Output>(
     alloc: Global,
     options: &Options,
     sides: &Sides,
@@ -231,6 +235,7 @@ fn write_difference<W: Write>(
 ) -> Result<(), Stop>
     ensures writes { OnOk result (Appends (W.contents out.old) (W.contents out.new) (difference_text options.now sides.now difference.now)) }
     ensures ended { IfErr result (EndsAfter [] [] (Appends (W.contents out.old) (W.contents out.new)) (λ bs. bs ≡ [])) }
+    ensures said { IfErr result (SaidBy (W.fails out.new)) }
 {
     if options.quiet {
         return Ok(());
@@ -247,7 +252,7 @@ fn write_difference<W: Write>(
 }
 
 /// Writes a path after what a file says of it: the verdict, and the rule by which it is said.
-fn write_side<W: Write>(
+fn write_side<W: Output>(
     form: Form<'_>,
     rules: &Gitignore,
     said: &Said,
@@ -256,6 +261,7 @@ fn write_side<W: Write>(
 ) -> Result<(), Stop>
     ensures writes { OnOk result (Appends (W.contents out.old) (W.contents out.new) (side (option_copied form.entry.base) form.entry.null rules.now said.now path.now)) }
     ensures ended { IfErr result IsUnwritten }
+    ensures said { IfErr result (SaidBy (W.fails out.new)) }
 {
     write_bytes(word_of(said.verdict()).as_bytes(), out)?;
     write_before(form, out)?;

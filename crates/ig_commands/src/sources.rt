@@ -1,14 +1,16 @@
 //! The files of rules that `lint` looks at.
-ghost use Rattle.std.specs.Prelude.{◌≡◌, ◌⊎◌, ◌++◌, IfErr, IfOk, None, OnOk};
+ghost use Rattle.std.specs.Prelude.{◌≡◌, ◌⊎◌, ◌++◌, [], IfErr, IfOk, IfSome, None, OnOk, Option};
 ghost use Rattle.std.specs.Io.KnownBytes.{Appends};
+ghost use Rattle.ignore_base.specs.Text.{Bytes};
 ghost use Rattle.ignore_base.specs.Problem.{Problem, memory, problem_of};
-ghost use Rattle.ig_commands.specs.Lint.{given_path, given_paths};
+ghost use Rattle.ig_commands.specs.Lint.{CountsSoFar, IsCounted, StillCounts, given_path, given_paths};
 ghost use Rattle.ig_commands.specs.Listing.{RefusesOptions};
 ghost use Rattle.ig_commands.specs.Reports.{report_line};
+ghost use Rattle.ig_commands.specs.Stops.{IsOther};
 
 use crate::asking::{Asked, asked_met};
 use crate::ignored::{matchers_of, note_item};
-use crate::names::end_names;
+use crate::names::{Unnamed, end_names};
 use crate::noted::{Noted, push_name};
 use crate::reinclude::below;
 use crate::root::root_of;
@@ -43,7 +45,8 @@ pub(crate) struct Sources {
 
 /// The files that are given.
 pub(crate) fn given_sources(alloc: Global, options: &Options) -> Result<Sources, AllocError>
-    ensures { IfOk result (λ sources. sources.outside.items ≡ given_paths options.now) }
+    ensures given { IfOk result (λ sources. sources.outside.items ≡ given_paths options.now) }
+    ensures alone { IfOk result (λ sources. sources.below.items ≡ []) }
 {
     let mut outside = Vec::new(alloc);
     for given in &options.paths {
@@ -75,8 +78,10 @@ pub(crate) fn find_sources<F: Files, E: Write>(
     first: TypesBuilder,
     err: &mut E,
 ) -> Result<Option<Sources>, Stop>
-    ensures { IfOk result (λ found. found ≡ None → (problem : Problem) × RefusesOptions world.now.env.now options.now first problem
+    ensures refused { IfOk result (λ found. found ≡ None → (problem : Problem) × RefusesOptions world.now.env.now options.now first problem
         × Appends (E.contents err.old) (E.contents err.new) (report_line problem)) }
+    ensures counted { IfOk result (λ found. IfSome found (λ s. IsCounted s.reported (Appends (E.contents err.old) (E.contents err.new)))) }
+    ensures other { IfErr result IsOther }
 {
     let named = Noted::new(world.alloc, world.files);
     match ask_noted(world, &named, options, first) {
@@ -116,7 +121,10 @@ fn survey_asked<F: Files, E: Write>(
     asked: Asked,
     outside: Vec<Name>,
     err: &mut E,
-) -> Result<Sources, Stop> {
+) -> Result<Sources, Stop>
+    ensures counted { IfOk result (λ s. IsCounted s.reported (Appends (E.contents err.old) (E.contents err.new))) }
+    ensures other { IfErr result IsOther }
+{
     let Asked { walk, errors } = asked;
     let reported = report_unread(&errors, err)?;
     let mut sources = Sources {
@@ -130,7 +138,10 @@ fn survey_asked<F: Files, E: Write>(
 
 /// Reports of the files that are named those that can't be read, and returns how many these are. What
 /// is wrong with the lines of the others is found as of any file.
-fn report_unread<E: Write>(errors: &[Option<Error>], err: &mut E) -> Result<u64, Stop> {
+fn report_unread<E: Write>(errors: &[Option<Error>], err: &mut E) -> Result<u64, Stop>
+    ensures counted { IfOk result (λ count. IsCounted count (Appends (E.contents err.old) (E.contents err.new))) }
+    ensures other { IfErr result IsOther }
+{
     let mut count = 0u64;
     for error in errors {
         if let Some(error) = error {
@@ -166,7 +177,10 @@ fn survey_sources<F: Files, E: Write>(
     walk: WalkOptions,
     sources: &mut Sources,
     err: &mut E,
-) -> Result<(), Stop> {
+) -> Result<(), Stop>
+    ensures counted { OnOk result (StillCounts sources.old.reported (E.contents err.old) sources.new.reported (E.contents err.new)) }
+    ensures other { IfErr result IsOther }
+{
     let noted = Noted::new(world.alloc, world.files);
     let noting = World {
         alloc: world.alloc,
@@ -187,7 +201,10 @@ fn survey_worktree<F: Files, E: Write>(
     walk: WalkOptions,
     sources: &mut Sources,
     err: &mut E,
-) -> Result<(), Stop> {
+) -> Result<(), Stop>
+    ensures counted { OnOk result (StillCounts sources.old.reported (E.contents err.old) sources.new.reported (E.contents err.new)) }
+    ensures other { IfErr result IsOther }
+{
     let Ok(roots) = roots_of(world.alloc, options) else {
         return Err(Stop::Memory);
     };
@@ -216,35 +233,63 @@ fn survey_root<F: Files, E: Write>(
     matcher: IncrementalIgnore,
     sources: &mut Sources,
     err: &mut E,
-) -> Result<(), Stop> {
+) -> Result<(), Stop>
+    ensures counted { OnOk result (StillCounts sources.old.reported (E.contents err.old) sources.new.reported (E.contents err.new)) }
+    ensures other { IfErr result IsOther }
+{
     let Ok(survey) = Survey::new(world.alloc, world.files, matcher) else {
         return Err(Stop::Memory);
     };
     let mut names = None;
+    let seeking = Seeking {
+        alloc: world.alloc,
+        options,
+    };
     for item in survey {
-        match item {
-            Ok(entry) => add_met(world.alloc, options, &entry, sources)?,
-            Err(error) => {
-                note_item(error, &mut names, err)?;
-                sources.reported = sources.reported.saturating_add(1);
-            }
-        }
+        note_met(seeking, item, &mut names, sources, err)?;
     }
     end_names(&names, err)
 }
 
-/// Adds an entry, where it is a file of rules.
-fn add_met(
+/// By which options files of rules are sought.
+#[derive(Clone, Copy)]
+struct Seeking<'o> {
     alloc: Global,
-    options: &Options,
-    entry: &Surveyed,
+    options: &'o Options,
+}
+
+/// Adds an entry, where it is a file of rules, or notes what stands in its place, which is counted.
+fn note_met<E: Write>(
+    seeking: Seeking<'_>,
+    item: Result<Surveyed, Error>,
+    names: &mut Option<Unnamed>,
     sources: &mut Sources,
-) -> Result<(), Stop> {
+    err: &mut E,
+) -> Result<(), Stop>
+    ensures counted { OnOk result ((start : Option Bytes) → CountsSoFar sources.old.reported names.old start (E.contents err.old)
+        → CountsSoFar sources.new.reported names.new start (E.contents err.new)) }
+    ensures other { IfErr result IsOther }
+{
+    match item {
+        Ok(entry) => add_met(seeking, &entry, sources),
+        Err(error) => {
+            note_item(error, names, err)?;
+            sources.reported = sources.reported.saturating_add(1);
+            Ok(())
+        }
+    }
+}
+
+/// Adds an entry, where it is a file of rules.
+fn add_met(seeking: Seeking<'_>, entry: &Surveyed, sources: &mut Sources) -> Result<(), Stop>
+    ensures kept { OnOk result (sources.new.reported ≡ sources.old.reported) }
+    ensures other { IfErr result IsOther }
+{
     let path = entry.path.as_str();
-    if entry.file_type.is_dir() || !is_of_rules(options, path) {
+    if entry.file_type.is_dir() || !is_of_rules(seeking.options, path) {
         return Ok(());
     }
-    match push_name(alloc, path, &mut sources.below) {
+    match push_name(seeking.alloc, path, &mut sources.below) {
         Ok(()) => Ok(()),
         Err(_) => Err(Stop::Memory),
     }
@@ -257,7 +302,9 @@ fn add_outside<F: Files>(
     options: &Options,
     read: &[Name],
     sources: &mut Sources,
-) -> Result<(), Error> {
+) -> Result<(), Error>
+    ensures { OnOk result (sources.new.reported ≡ sources.old.reported) }
+{
     let global = gitconfig_excludes_path(world.alloc, world.files, world.env)?;
     let global = match &global {
         Some(path) => path.as_str(),

@@ -25,7 +25,7 @@ ghost use Rattle.ig_commands.specs.Form.{rule_of};
 ghost use Rattle.ig_commands.specs.Found.{FindsOf, deciding, first_at, met, read_in};
 ghost use Rattle.ig_commands.specs.Reports.{report_of};
 ghost use Rattle.ig_commands.specs.Rules.{Grows, rule_at};
-ghost use Rattle.ig_commands.specs.Stops.{EndsAfter};
+ghost use Rattle.ig_commands.specs.Stops.{EndsAfter, IsOther, SaidBy};
 ghost use Rattle.ig_commands.specs.Surveys.{AreMetBy, IsBegun, OfMatcher, OfRoot, all_seen, all_told, begun_in, begun_told, is_wrong, left_from, names_by, reports, seen_of, told_by, told_from, told_in};
 ghost use Rattle.ig_commands.specs.Unused.{AreUnusedIn, FileRule, UnusedAsked, UnusedEnds, Writes};
 ghost use Rattle.ig_commands.specs.Worktree.{worktree};
@@ -40,7 +40,7 @@ use crate::rules::FileRules;
 use crate::stop::Stop;
 use crate::worktree::{Worktree, roots_of};
 use crate::writing::refuse_or_end;
-use commands::World;
+use commands::{Output, World};
 use ig_options::Options;
 use ignore::{IncrementalIgnore, query_laws};
 use ignore_base::Error;
@@ -58,7 +58,7 @@ use std::io::Write;
 ///
 /// # Errors
 /// Why it ended early, of which nothing was reported.
-pub fn list_unused<F: Files, W: Write, E: Write>(
+pub fn list_unused<F: Files, W: Output, E: Write>(
     world: &World<'_, F>,
     options: &Options,
     first: TypesBuilder,
@@ -69,6 +69,7 @@ pub fn list_unused<F: Files, W: Write, E: Write>(
         (Appends (W.contents out.old) (W.contents out.new)) (Appends (E.contents err.old) (E.contents err.new))) }
     ensures ended { IfErr result (UnusedEnds F.Files world.now.files.now world.now.env.now options.now first
         (Appends (W.contents out.old) (W.contents out.new)) (Appends (E.contents err.old) (E.contents err.new))) }
+    ensures said { IfErr result (SaidBy (W.fails out.new)) }
 {
     match asked_met(world, options, first) {
         Ok(asked) => find_in_worktree(world, options, asked, out, err),
@@ -77,7 +78,7 @@ pub fn list_unused<F: Files, W: Write, E: Write>(
 }
 
 /// Lists the rules that decide on no entry of the worktree of the roots.
-fn find_in_worktree<F: Files, W: Write, E: Write>(
+fn find_in_worktree<F: Files, W: Output, E: Write>(
     world: &World<'_, F>,
     options: &Options,
     asked: Asked,
@@ -95,6 +96,7 @@ fn find_in_worktree<F: Files, W: Write, E: Write>(
         × ((tree : Tree) → IsHonest F.Files world.now.files.now tree → asked.walk.roots ≡ []
         → AreMetBy is_whole (worktree roots tree) world.now.env.now options.now asked.walk all))
         ⊎ EndsAfter [] [] (Appends (W.contents out.old) (W.contents out.new)) (Appends (E.contents err.old) (E.contents err.new)) stop) }
+    ensures said { IfErr result (SaidBy (W.fails out.new)) }
 {
     let Ok(roots) = roots_of(world.alloc, options) else {
         return Err(Stop::Memory);
@@ -158,7 +160,8 @@ impl Found {
 }
 
 /// Reports what is wrong with the files that are named, lists, and reports the counts.
-fn report_and_find<F: Files, W: Write, E: Write>(
+#[tactic(auto, using(crate::proofs::StopLemmas::other_said))]
+fn report_and_find<F: Files, W: Output, E: Write>(
     world: &World<'_, F>,
     options: &Options,
     asked: Asked,
@@ -173,6 +176,7 @@ fn report_and_find<F: Files, W: Write, E: Write>(
         (Appends (W.contents out.old) (W.contents out.new)) (Appends (E.contents err.old) (E.contents err.new)) stop
         × ((tree : Tree) → IsHonest F.Files world.now.files.now tree → asked.walk.roots ≡ []
         → AreMetBy is_whole tree world.now.env.now options.now asked.walk all)) }
+    ensures said { IfErr result (SaidBy (W.fails out.new)) }
 {
     let reported = report_all(&asked.errors, err)?;
     let Ok(matchers) = matchers_of(world, options, asked.walk) else {
@@ -218,6 +222,7 @@ fn find_all<F: Files, E: Write>(
         × (matchers.items ≡ first ++ matcher ∷ rest) × AllZip (FindsOf F.Files world.now.files.now) first done
         × OfMatcher F.Files world.now.files.now IsBegun matcher last
         × EndsAfter [] (begun_told options.now (met done ++ last ∷ [])) (λ bs. bs ≡ []) (Appends (E.contents err.old) (E.contents err.new)) stop) }
+    ensures other { IfErr result IsOther }
 {
     let mut reported = 0u64;
     for matcher in matchers {
@@ -241,6 +246,7 @@ fn find_below<F: Files, E: Write>(
         × Grows (first_at (deciding r.0.1)) found.old.used found.new.used × Grows (first_at r.1) found.old.read found.new.read) }
     ensures ended { IfErr result (λ stop. (r : OfRoot) × OfMatcher F.Files world.now.files.now IsBegun matcher r
         × EndsAfter [] (begun_in options.now r.1) (λ bs. bs ≡ []) (Appends (E.contents err.old) (E.contents err.new)) stop) }
+    ensures other { IfErr result IsOther }
 {
     let Ok(mut survey) = Survey::new(world.alloc, world.files, matcher) else {
         return Err(Stop::Memory);
@@ -273,6 +279,7 @@ fn find_items<I: Iterator<Item = Item> + Drop, E: Write>(
         × EndsAfter [] (told_from options.now names.old (map seen_of all)) (λ bs. bs ≡ []) (Appends (E.contents err.old) (E.contents err.new)) stop
         × All (λ item. item_of item ≢ Err memory) all) }
     ensures read { found.new.read ≡ found.old.read }
+    ensures other { IfErr result IsOther }
 {
     let mut reported = 0u64;
     while let Some(item) = items.next() {
@@ -298,6 +305,7 @@ fn find_by<E: Write>(
     ensures wrong { IfOk result (λ any. any ≡ is_wrong options.now (seen_of item)) }
     ensures enough { OnOk result (item_of item ≢ Err memory) }
     ensures ended { IfErr result (EndsAfter [] [] (λ bs. bs ≡ []) (Appends (E.contents err.old) (E.contents err.new))) }
+    ensures other { IfErr result IsOther }
 {
     match item {
         Ok(entry) => match found.note_used(&entry) {

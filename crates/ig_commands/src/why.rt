@@ -21,7 +21,7 @@ ghost use Rattle.ignore_why.specs.QueryWhy.{query_why_of};
 ghost use Rattle.ig_commands.specs.Counts.{counted};
 ghost use Rattle.ig_commands.specs.Form.{reasoned};
 ghost use Rattle.ig_commands.specs.Reports.{report_of};
-ghost use Rattle.ig_commands.specs.Stops.{EndsAfter, IsUnwritten};
+ghost use Rattle.ig_commands.specs.Stops.{EndsAfter, IsUnwritten, SaidBy};
 ghost use Rattle.ig_commands.specs.Why.{AreAll, AreBegun, AreSaid, IsMatcherOf, IsSaid, IsSaidOf, WhyAsked, WhyEnds, Writes};
 ghost use Rattle.ig_commands.specs.Why.{is_found, is_left_out, is_wrong, outside_line, record_line, reports, said_of, written};
 ghost use Rattle.ig_commands.specs.Why.{Said as Plain};
@@ -33,7 +33,7 @@ use crate::reports::{report_all, report_rules};
 use crate::root::root_of;
 use crate::stop::Stop;
 use crate::writing::refuse_or_end;
-use commands::World;
+use commands::{Output, World};
 use ig_options::{Given, Options};
 use ignore::{IncrementalIgnore, WalkBuilder, WalkOptions, text};
 use ignore_base::Error;
@@ -64,7 +64,7 @@ pub(crate) enum Said<'g> {
 ///
 /// # Errors
 /// Why it ended early, of which nothing was reported.
-pub fn why<F: Files, W: Write, E: Write>(
+pub fn why<F: Files, W: Output, E: Write>(
     world: &World<'_, F>,
     options: &Options,
     first: TypesBuilder,
@@ -75,6 +75,7 @@ pub fn why<F: Files, W: Write, E: Write>(
         (Appends (W.contents out.old) (W.contents out.new)) (Appends (E.contents err.old) (E.contents err.new))) }
     ensures ended { IfErr result (WhyEnds F.Files world.now.files.now world.now.env.now options.now first
         (Appends (W.contents out.old) (W.contents out.new)) (Appends (E.contents err.old) (E.contents err.new))) }
+    ensures said { IfErr result (SaidBy (W.fails out.new)) }
 {
     match asked_for(world, options, first) {
         Ok(asked) => report_and_ask(world, options, asked, out, err),
@@ -83,7 +84,7 @@ pub fn why<F: Files, W: Write, E: Write>(
 }
 
 /// Reports what is wrong with the files that are named, and asks.
-fn report_and_ask<F: Files, W: Write, E: Write>(
+fn report_and_ask<F: Files, W: Output, E: Write>(
     world: &World<'_, F>,
     options: &Options,
     asked: Asked,
@@ -97,6 +98,7 @@ fn report_and_ask<F: Files, W: Write, E: Write>(
         × EndsAfter (flat_map (written options.now root) said) (flat_map report_of (map (option_map problem_of) asked.errors.items) ++ flat_map (reports options.now root) said)
         (Appends (W.contents out.old) (W.contents out.new)) (Appends (E.contents err.old) (E.contents err.new)) stop
         × ((tree : Tree) → IsHonest F.Files world.now.files.now tree → AreBegun tree world.now.env.now asked.walk options.now.paths.items root said)) }
+    ensures said { IfErr result (SaidBy (W.fails out.new)) }
 {
     let reported = report_all(&asked.errors, err)?;
     let Ok(mut matcher) = matcher_of(world, asked.walk) else {
@@ -130,7 +132,7 @@ pub(crate) fn matcher_of<F: Files>(
 }
 
 /// Asks about each path, and writes.
-fn ask_all<F: Files, W: Write, E: Write>(
+fn ask_all<F: Files, W: Output, E: Write>(
     world: &World<'_, F>,
     options: &Options,
     matcher: &mut IncrementalIgnore,
@@ -149,6 +151,7 @@ fn ask_all<F: Files, W: Write, E: Write>(
         × (options.now.paths.items ≡ first ++ rest)
         × InEachScene F.Files world.now.files.now matcher.old.asked (λ g. Agrees g matcher.old.cache
         → AreSaid g (dir_of matcher.old.asked) first matcher.old.cache last said)) }
+    ensures said { IfErr result (SaidBy (W.fails out.new)) }
 {
     let mut counts = Counts::begun(0);
     for given in &options.paths {
@@ -244,7 +247,7 @@ fn is_dir_there<F: Files>(alloc: Global, files: &F, root: &str, path: &str) -> R
 }
 
 /// Writes a path after its reason, and reports what is wrong.
-pub(crate) fn write_said<W: Write, E: Write>(
+pub(crate) fn write_said<W: Output, E: Write>(
     options: &Options,
     root: &str,
     said: &Said<'_>,
@@ -256,6 +259,7 @@ pub(crate) fn write_said<W: Write, E: Write>(
     ensures reported { IfOk result (λ seen. seen.reported ≡ is_wrong options.now (said_of said.now)) }
     ensures found { IfOk result (λ seen. seen.found ≡ is_found (said_of said.now)) }
     ensures ended { IfErr result (EndsAfter [] [] (Appends (W.contents out.old) (W.contents out.new)) (Appends (E.contents err.old) (E.contents err.new))) }
+    ensures said { IfErr result (SaidBy (W.fails out.new)) }
 {
     match said {
         Said::NotText(number) => report_record(*number, "is not UTF-8", err),
@@ -273,7 +277,7 @@ pub(crate) fn write_said<W: Write, E: Write>(
 
 /// Writes a path after its reason, unless nothing is to be written, or only what is ignored and that
 /// isn't.
-fn write_answer<W: Write>(
+fn write_answer<W: Output>(
     options: &Options,
     root: &str,
     path: &str,
@@ -284,6 +288,7 @@ fn write_answer<W: Write>(
         (if is_left_out options.now (is_ignore explanation.now.answer.verdict) then []
         else reasoned (Some root.now) options.now.null (query_why_of explanation.now.reason) path.now)) }
     ensures ended { IfErr result IsUnwritten }
+    ensures said { IfErr result (SaidBy (W.fails out.new)) }
 {
     if is_left_out(options, explanation.answer.is_ignore()) {
         return Ok(());

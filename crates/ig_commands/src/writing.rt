@@ -1,51 +1,54 @@
 //! Writing to the output, and reports to the errors.
 ghost use Rattle.std.specs.Prelude.{◌≡◌, ◌≢◌, ◌⊎◌, [], OnOk, IfOk, IfErr, None, true};
 ghost use Rattle.std.specs.Io.KnownBytes.{Appends};
-ghost use Rattle.std.specs.IoError.{error_kind};
 ghost use Rattle.std.specs.List.{list_any};
 ghost use Rattle.ignore_base.specs.Problem.{memory, problem_of};
 ghost use Rattle.ig_commands.specs.Reports.{report_line};
-ghost use Rattle.ig_commands.specs.Stops.{IsUnwritten, write_stop};
+ghost use Rattle.ig_commands.specs.Stops.{IsUnwritten, SaidBy, write_stop};
 ghost use Rattle.ig_commands.specs.Writing.{asks_for_files, chooses, is_chosen, is_listed, is_of_kind, is_positive, is_regular, record_of, shown};
 
 use crate::stop::{Stop, Unwritten};
+use commands::Output;
+use commands::internal::write_whole;
 use ig_options::Options;
 use ignore_base::Error;
 use ignore_base::text::trim_root;
 use ignore_files::{FileType, Name};
-use std::io;
-use std::io::Write;
+use std::io::{ErrorKind, Write};
 
 /// Writes bytes to the output.
-pub(crate) fn write_bytes<W: Write>(bytes: &[u8], out: &mut W) -> Result<(), Stop>
+#[tactic(auto, using(crate::proofs::StopLemmas::said_as))]
+pub(crate) fn write_bytes<W: Output>(bytes: &[u8], out: &mut W) -> Result<(), Stop>
     ensures writes { OnOk result (Appends (W.contents out.old) (W.contents out.new) bytes.now) }
     ensures ended { IfErr result IsUnwritten }
+    ensures said { IfErr result (SaidBy (W.fails out.new)) }
 {
-    match out.write_all(bytes) {
+    match write_whole(bytes, out) {
         Ok(()) => Ok(()),
-        Err(error) => Err(write_stop(&error)),
+        Err(kind) => Err(write_stop(kind)),
     }
 }
 
-/// Why a failed write ends a command.
-pub(crate) fn write_stop(error: &io::Error) -> Stop
-    ensures kind { result ≡ write_stop (error_kind error.now) }
+/// Why a write that failed by an error of this kind ends a command.
+pub(crate) fn write_stop(kind: ErrorKind) -> Stop
+    ensures kind { result ≡ write_stop kind }
     ensures ended { IsUnwritten result }
 {
-    match error.kind() {
-        io::ErrorKind::BrokenPipe => Stop::Closed,
-        io::ErrorKind::StorageFull => Stop::Write(Unwritten::Full),
-        io::ErrorKind::QuotaExceeded => Stop::Write(Unwritten::Quota),
-        io::ErrorKind::FileTooLarge => Stop::Write(Unwritten::TooLarge),
+    match kind {
+        ErrorKind::BrokenPipe => Stop::Closed,
+        ErrorKind::StorageFull => Stop::Write(Unwritten::Full),
+        ErrorKind::QuotaExceeded => Stop::Write(Unwritten::Quota),
+        ErrorKind::FileTooLarge => Stop::Write(Unwritten::TooLarge),
         _ => Stop::Write(Unwritten::Other),
     }
 }
 
 /// Writes a path, and what it ends in: a newline, or NUL. Without a root its leading `./` is left
 /// out.
-pub(crate) fn write_path<W: Write>(options: &Options, path: &str, out: &mut W) -> Result<(), Stop>
+pub(crate) fn write_path<W: Output>(options: &Options, path: &str, out: &mut W) -> Result<(), Stop>
     ensures writes { OnOk result (Appends (W.contents out.old) (W.contents out.new) (record_of options.now path.now)) }
     ensures ended { IfErr result IsUnwritten }
+    ensures said { IfErr result (SaidBy (W.fails out.new)) }
 {
     write_bytes(shown(options.is_bare, path).as_bytes(), out)?;
     let end: &[u8] = if options.null { b"\0" } else { b"\n" };

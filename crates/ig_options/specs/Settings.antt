@@ -6,10 +6,6 @@ use Rattle.ignore.specs.Depths.{lowered, raised}
 use Rattle.ignore.specs.declared.options.WalkOptions.{WalkOptions}
 use Rattle.ig_options.specs.declared.options.Options.{Options}
 
--- how many steps a walk may take
-abbrev pub most_steps : ℕ
-most_steps = 1000000000
-
 -- no file of rules counts: by `-I`, or by a `-u`
 abbrev pub is_unruled : Options → Bool
 is_unruled o = o.no_ignore || nat_lt 0 o.unrestricted
@@ -44,8 +40,8 @@ with_files o w =
       };
     }
 
--- the settings with the limits that are asked for, of which a least depth above the greatest one is
--- lowered to that
+-- the settings with the limits and the order that are asked for; of the limits a least depth above
+-- the greatest one is lowered to that
 abbrev pub with_limits : Options → WalkOptions → WalkOptions
 with_limits o w =
     record w {
@@ -56,7 +52,7 @@ with_limits o w =
         max_filesize = o.max_filesize;
       };
       same_file_system = o.one_file_system;
-      limit = most_steps;
+      order = o.order;
     }
 
 -- the settings with more names of files of rules, after the others

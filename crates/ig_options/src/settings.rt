@@ -9,9 +9,6 @@ use ignore_base::Error;
 use ignore_dir::Names;
 use std::alloc::Global;
 
-/// How many steps a walk may take, so that one of links without end has an end.
-const MOST_STEPS: u64 = 1_000_000_000;
-
 /// The settings of a walk that the options ask for, without roots and without rules from outside.
 ///
 /// # Errors
@@ -72,7 +69,7 @@ fn set_files(walk: &mut WalkOptions, options: &Options)
     walk.git_trailing_spaces(options.git_trailing_spaces);
 }
 
-/// How far a walk goes.
+/// How far a walk goes, and in which order.
 fn set_limits(walk: &mut WalkOptions, options: &Options)
     ensures { walk.new ≡ with_limits options.now walk.old }
 {
@@ -81,7 +78,7 @@ fn set_limits(walk: &mut WalkOptions, options: &Options)
     walk.min_depth(options.min_depth);
     walk.max_filesize(options.max_filesize);
     walk.same_file_system(options.one_file_system);
-    walk.limit(MOST_STEPS);
+    walk.sort(options.order);
 }
 
 /// Which names further files of rules have: none where no file counts.

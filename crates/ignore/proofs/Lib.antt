@@ -3,3 +3,4 @@ mod HeadlineLemmas
 mod OutsideOnly
 mod SceneLemmas
 mod WorkedSettings
+mod WorkedWalks

@@ -5,6 +5,8 @@ use Rattle.ignore_base.specs.Text.{Bytes, Path}
 use Rattle.ignore_dir.specs.Standard.{standard}
 use Rattle.ignore_rules.specs.Rules.{Ruleset, empty}
 use Rattle.ignore_types.specs.TypeMatch.{Matcher}
+use Rattle.ignore_walk.specs.declared.callbacks.Order.{Order}
+use Rattle.ignore_walk.specs.declared.callbacks.Order.TheVariants.{Listed}
 use Rattle.ignore.specs.declared.options.WalkOptions.{WalkOptions}
 use Rattle.ignore.specs.Depths.{raised, lowered}
 
@@ -18,6 +20,7 @@ unset =
       types = record { definitions = []; choices = [] };
       explicit = [];
       current_dir = None;
+      order = Listed;
       limit = 18446744073709551615;
       same_file_system = false;
     }
@@ -104,6 +107,10 @@ with_min_depth b depth = record b { settings = record b.settings { min_depth = l
 -- the builder with this size above which a file is ignored
 abbrev pub with_max_filesize : WalkOptions → Option ℕ → WalkOptions
 with_max_filesize b size = record b { settings = record b.settings { max_filesize = size } }
+
+-- the builder of which the entries of each directory come in this order, by which texts compare as such
+abbrev pub with_order : WalkOptions → Order → WalkOptions
+with_order b order = record b { order = order }
 
 -- the builder with this number of steps that a walk may take
 abbrev pub with_limit : WalkOptions → ℕ → WalkOptions

@@ -6,10 +6,10 @@ pub use Rattle.ignore_dir.specs.Load.{joined_some}
 pub use Rattle.ignore_dir.specs.LoadsBy.{LoadsBy, reads_of, stats_of}
 pub use Rattle.ignore_dir.specs.Query.{ancestors, has_rules, is_ignored, size_of}
 pub use Rattle.ignore_dir.specs.Steps.{Reached, entered, entry, reached_in}
-pub use Rattle.ignore_guide.specs.Guide.{AreApart, InGuide, IsRootBy, IsSameGuide, IsUnchanged, KeepsPlaces, StandsFor, cause_at, decided, decided_listed, holding, len_of, root_reached, why_at}
-pub use Rattle.ignore_guide.specs.Hosted.{CallRefused, IsToldOf, StepGives}
+pub use Rattle.ignore_guide.specs.Guide.{InGuide, IsRootBy, IsSameGuide, IsUnchanged, KeepsPlaces, StandsFor, cause_at, decided, decided_listed, holding, len_of, root_reached, why_at}
+pub use Rattle.ignore_guide.specs.Hosted.{CallRefused, IsNewPlace, IsPlaced, IsToldOf, StepGives, StepPlaces}
 pub use Rattle.ignore_guide.specs.Names.{IsAsked, IsLeft, IsNoPlace, IsNotLeft, IsRefused}
-pub use Rattle.ignore_guide.specs.Places.{IsGone, entered_at}
+pub use Rattle.ignore_guide.specs.Places.{IsGone, IsIn, IsSamePlaces, KeepsOthers, entered_at}
 pub use Rattle.ignore_guide.specs.Reasons.{decided_why}
 pub use Rattle.ignore_guide.specs.Told.{AreOf, IsAlmostFresh, IsFresh, without_sizes}
 pub use Rattle.ignore_guide.specs.declared.error.GuideError.TheVariants.{Memory}

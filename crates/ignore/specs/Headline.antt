@@ -12,13 +12,15 @@ use Rattle.ignore_walk.specs.Suits.{IsOrderBy}
 use Rattle.ignore_walk.specs.Whole.{Whole}
 use Rattle.ignore_walk.specs.declared.callbacks.Callbacks.{Ghosts as Callbacks}
 use Rattle.ignore_walk.specs.declared.callbacks.Order.{Order}
+use Rattle.ignore_walk.specs.declared.callbacks.Order.TheVariants.{Listed}
 use Rattle.ignore.specs.declared.options.WalkOptions.{WalkOptions}
 use Rattle.ignore.specs.Asked.{IsOutside}
+use Rattle.ignore.specs.Closures.{chosen_order, no_closures}
 use Rattle.ignore.specs.ItsList.{ForItsList}
 
 -- a scene is one of a walk in a tree, by options and rules from outside: it has the tree and the
 -- loads of its directories, the settings, these rules, a function by which the filter of `owner`
--- answers, and a strict weak order by which its comparison does
+-- answers, and, if an order is chosen, a strict weak order by which its comparison does
 pub record IsSceneOf {S : Type 0} (calls : Callbacks S) (owner : S) (b : WalkOptions) (order : Order) (t : Tree) (o : Outside)
     (g : Scene) : Type 0 where
   pub tree : g.tree ≡ t
@@ -27,7 +29,12 @@ pub record IsSceneOf {S : Type 0} (calls : Callbacks S) (owner : S) (b : WalkOpt
   pub outside : g.outside ≡ o
   pub device : g.same_file_system ≡ b.same_file_system
   pub filter : calls.filters owner g.keep
-  pub sorted : IsOrderBy order (calls.compares owner) g.order
+  pub sorted : IsOrderBy (chosen_order b order) (calls.compares owner) g.order
+
+-- a scene is one of a walk without closures, by options alone: each entry passes, and texts compare as
+-- such
+abbrev pub IsBareScene : WalkOptions → Tree → Outside → Scene → Type 0
+IsBareScene b t o g = IsSceneOf no_closures tt b Listed t o g
 
 -- each list that there is (there may be none) takes more steps than the limit, in each tree that
 -- the files are consistent with

@@ -43,9 +43,9 @@ impl WalkBuilder {
         }
     }
 
-    /// A builder with these options, without an order and without a filter. Functions that return
-    /// or change options are covered, those that hand out or change a builder aren't: so an order
-    /// and a filter are set at last.
+    /// A builder with these options, without a comparison and without a filter. Functions that
+    /// return or change options are covered, those that hand out or change a builder aren't: so a
+    /// comparison and a filter are set at last.
     pub fn from_options(options: WalkOptions) -> WalkBuilder
         ensures options { result.options ≡ options }
         ensures plain { (result.sorter ≡ None) × (result.filter ≡ None) }

@@ -7,6 +7,7 @@ mod filters;
 mod guides;
 mod limits;
 mod matchers;
+mod order;
 mod outside;
 mod rules;
 
@@ -15,10 +16,11 @@ use ignore_dir::{Matchers, Names, Settings};
 use ignore_files::Name;
 use ignore_rules::overrides::Override;
 use ignore_types::types::Types;
+use ignore_walk::Order;
 use std::alloc::{AllocError, Global};
 
-/// All settings of a builder but its order and its filter, which are closures. Each setter is that
-/// of `WalkBuilder` of the same name, and `WalkBuilder::from_options` makes a builder of them.
+/// All settings of a builder but its comparison and its filter, which are closures. Each setter is
+/// that of `WalkBuilder` of the same name, and `WalkBuilder::from_options` makes a builder of them.
 #[derive(Drop)]
 pub struct WalkOptions {
     pub(crate) roots: Names,
@@ -27,6 +29,7 @@ pub struct WalkOptions {
     pub(crate) types: Types,
     pub(crate) explicit: Matchers,
     pub(crate) current_dir: Option<Name>,
+    pub(crate) order: Order,
     pub(crate) limit: u64,
     pub(crate) same_file_system: bool,
 }
@@ -46,6 +49,7 @@ impl WalkOptions {
             types: Types::empty(alloc),
             explicit: Matchers::new(Vec::new(alloc)),
             current_dir: None,
+            order: Order::Listed,
             limit: u64::MAX,
             same_file_system: false,
         }

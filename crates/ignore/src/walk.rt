@@ -37,7 +37,8 @@ impl<'a, F: Files, S: Callbacks> Iterator for Walk<'a, F, S> {
 
 impl<'a, F: Files, S: Callbacks> FusedIterator for Walk<'a, F, S> {}
 
-/// What keeps the filter and the comparison of a walk: a builder, which is lent to it, or nothing.
+/// What keeps the filter and the comparison of a walk: a builder, which is lent to it, or nothing. A
+/// builder without a comparison compares texts as such.
 #[derive(Clone, Copy, Drop)]
 pub struct Owner<'a> {
     /// The builder. Where there is none, each entry passes, and names come as they are listed.

@@ -4,7 +4,6 @@ ghost use Rattle.std.specs.Cmp.{IsStrictWeakOrder};
 ghost use Rattle.std.specs.Iterator.{Drains, YieldsThen};
 ghost use Rattle.std.specs.Ordering.{is_lt};
 ghost use Rattle.std.specs.declared.cmp.Ordering.{Ordering};
-ghost use Rattle.std.specs.declared.cmp.Ordering.TheVariants.{Equal};
 ghost use denote.Bor.{Bor};
 ghost use Rattle.ignore_base.specs.Text.{Path};
 ghost use Rattle.ignore_base.specs.declared.error.Error.{Error};
@@ -30,9 +29,9 @@ ghost use Rattle.ignore_walk.specs.declared.callbacks.Order.{Order};
 ghost use Rattle.ignore_walk.specs.declared.entry.DirEntry.{DirEntry};
 ghost use Rattle.ignore.specs.Agreement.{IsKeptByOne, IsMatcherIn, IsReached, answer_at, matcher_root};
 ghost use Rattle.ignore.specs.Asked.{IsOutside};
-ghost use Rattle.ignore.specs.Closures.{order_of};
+ghost use Rattle.ignore.specs.Closures.{ComparesTexts, IsBare, chosen_order, order_of};
 ghost use Rattle.ignore.specs.Finished.{IsFinished};
-ghost use Rattle.ignore.specs.Headline.{Headline, IsOnlyList, IsSceneOf, IsTheList};
+ghost use Rattle.ignore.specs.Headline.{Headline, IsBareScene, IsOnlyList, IsSceneOf, IsTheList};
 ghost use Rattle.ignore.specs.Matchers.{AreMatchers};
 ghost use Rattle.ignore.specs.Walks.{IsNewWalkBy, IsWalkBy};
 ghost use Rattle.ignore.specs.declared.options.WalkOptions.{WalkOptions};
@@ -60,9 +59,9 @@ pub fn a_run_yields_the_list<F: Files, S: Callbacks>()
     runs::a_run_yields_the_list::<F, S>();
 }
 
-/// A walk that has yielded some items and then one more, and isn't asked to its end, as by a loop
-/// that stops there: those are a beginning of what remained of it, and the one more is the next of
-/// that, or it is out of memory or the limit of steps, and ended the walk.
+/// A walk that has yielded some items and then one more has yielded a beginning of what remained of
+/// it, and then the next of that or what ended it. It isn't asked to its end, as by a loop that stops
+/// there; what ends a walk is out of memory or the limit of steps.
 pub fn a_run_begins_the_list<F: Files, S: Callbacks>()
     ensures { (g : Scene) (w v : Walk F S) (all : List (Result DirEntry Error)) (x : Result DirEntry Error) (items : List Item) (n : ℕ)
         → YieldsThen (λ a answer b. NextGives F.Files S.Callbacks a.inner (option_map item_of answer) b.inner) w all (Some x) v
@@ -93,9 +92,9 @@ pub fn only_the_last_item_ends<F: Files, S: Callbacks>()
 }
 
 /// Whatever the files answer, each entry that a walk yields is at one of its roots or below one, or is
-/// standard input where `-` is one of them: of a walk that is asked until it answers none (`whole`),
-/// and of one that isn't (`begun`); and so is each directory that it is in (`enters`). So it is with
-/// each walk of a builder (`WalkBuilder::build`, clause `goes_by`), and it stays so after each item.
+/// standard input where `-` is one of them. That is said of a walk that is asked until it answers none
+/// (`whole`), and of one that isn't (`begun`); and so is each directory that it is in (`enters`). So it
+/// is with each walk of a builder (`WalkBuilder::build`, clause `goes_by`), and it stays so after each item.
 pub fn a_run_stays_below_its_roots<F: Files, S: Callbacks>()
     ensures whole { (roots : List Path) (w : Walk F S) (all : List (Result DirEntry Error))
         → Drains (λ a answer b. NextGives F.Files S.Callbacks a.inner (option_map item_of answer) b.inner) w all
@@ -109,7 +108,7 @@ pub fn a_run_stays_below_its_roots<F: Files, S: Callbacks>()
     runs::a_run_stays_below_its_roots::<F, S>();
 }
 
-/// The list of the definition is one, item by item: a walk of a builder (`WalkBuilder::build`, clause
+/// The list of the definition is one, item by item. A walk of a builder (`WalkBuilder::build`, clause
 /// `whole`) that is asked until it answers none, and that no item ended, has yielded whatever list
 /// the definition has.
 pub fn a_finished_walk_has_no_other_list<F: Files, S: Callbacks>()
@@ -121,7 +120,7 @@ pub fn a_finished_walk_has_no_other_list<F: Files, S: Callbacks>()
     a_run_yields_the_list::<F, S>();
 }
 
-/// A walk that is asked until it answers none, and that no item ended, shows that there is a list: in
+/// A walk that is asked until it answers none, and that no item ended, shows that there is a list. In
 /// each scene that it suits, where what remains of it is what some roots give (as for a new walk),
 /// these roots give just the items that it has yielded, and in no more steps than it might take.
 pub fn a_finished_run_is_a_list<F: Files, S: Callbacks>()
@@ -157,23 +156,35 @@ pub fn a_scene_without_closures(builder: &WalkBuilder)
     one_load();
 }
 
-/// The same of a builder with closures that answer by functions: its comparison by one of an order
-/// in which two may tie, and its filter by one of entries, where it is asked about those without an
-/// error. The scene has this filter and this order. Where none is set, all texts tie, and each
-/// entry passes.
+/// The same of a builder with closures that answer by functions. Its comparison does by one of an
+/// order in which two may tie, and its filter by one of entries, where it is asked about those without
+/// an error. The scene has this filter and this order. Where none is set, texts compare as such, and
+/// each entry passes.
 pub fn a_scene_with_closures(builder: &WalkBuilder)
     ensures { (tree : Tree) (outside : Outside) (keep : Entry → Bool) (cmp : Path → Path → Ordering)
         → IsStrictWeakOrder (λ a b. is_lt (cmp a b))
-        → MatchOption builder.now.sorter ((a b : Path) → cmp a b ≡ Equal)
+        → MatchOption builder.now.sorter (ComparesTexts cmp)
         (λ s. (a b : Bor Path) (order : Ordering) → Compare.post s.compare a b order → order ≡ cmp a.now b.now)
         → MatchOption builder.now.filter ((e : Entry) → keep e ≡ true)
         (λ f. (e : Bor DirEntry) (yes : Bool) → problem_in e.now ≡ None → Keep.post f.keep e yes → yes ≡ keep (entry_of e.now))
         → (g : Scene) × IsSceneOf ⟦<Owner<'static> as Callbacks>⟧ (record { builder = Some builder.entry }) builder.now.options
         (order_of (λ s. s.order) builder.now.sorter) tree outside g
-        × (g.keep ≡ keep) × (g.order ≡ order_by (order_of (λ s. s.order) builder.now.sorter) cmp) }
+        × (g.keep ≡ keep) × (g.order ≡ order_by (chosen_order builder.now.options (order_of (λ s. s.order) builder.now.sorter)) cmp) }
 {
     one_load();
 }
+
+/// A walk of a builder without closures goes by its options alone. Each entry passes, and texts
+/// compare as such (`answers`). So each scene in which that is so is one of the walk (`scenes`), and
+/// what is said of the walk's list in all of its scenes may be said without its builder.
+pub fn a_builder_without_closures(builder: &WalkBuilder)
+    ensures answers { builder.now.sorter ≡ None → builder.now.filter ≡ None
+        → IsBare ⟦<Owner<'static> as Callbacks>⟧ (record { builder = Some builder.entry }) }
+    ensures scenes { (tree : Tree) (outside : Outside) (g : Scene) → builder.now.sorter ≡ None → builder.now.filter ≡ None
+        → IsBareScene builder.now.options tree outside g
+        → IsSceneOf ⟦<Owner<'static> as Callbacks>⟧ (record { builder = Some builder.entry }) builder.now.options
+        (order_of (λ s. s.order) builder.now.sorter) tree outside g }
+{}
 
 /// What a walk yields is what the matchers of its builder keep. Each of them goes by the settings
 /// and the rules from outside of the walk, and its root is one of the walk's (`matchers`). Where the
@@ -202,10 +213,10 @@ pub fn one_outside()
     ensures { (tree : Tree) (env : Env) (b : WalkOptions) (o p : Outside) → IsOutside tree env b o → IsOutside tree env b p → o ≡ p }
 {}
 
-/// Over any files: what has the headline (as `Ok` of `collect_walk`, or the items of a walk of a
-/// builder that was finished) is the one list of the definition in each tree that the files are
-/// consistent with, wherever there is a scene of the walk, as `a_scene_without_closures` and
-/// `a_scene_with_closures` say.
+/// Over any files: what has the headline is the one list of the definition in each tree that the
+/// files are consistent with. `Ok` of `collect_walk` has it, and so have the items of a walk of a
+/// builder that was finished; the list is there wherever there is a scene of the walk, as
+/// `a_scene_without_closures` and `a_scene_with_closures` say.
 pub fn the_one_list<F: Files, S: Callbacks>()
     ensures { (f : F) (owner : S) (env : Env) (b : WalkOptions) (order : Order) (tree : Tree) (o : Outside) (g : Scene) (all : List Item)
         → IsHonest F.Files f tree → IsOutside tree env b o → IsSceneOf S.Callbacks owner b order tree o g
@@ -215,8 +226,9 @@ pub fn the_one_list<F: Files, S: Callbacks>()
 }
 
 /// The headline over a tree in memory, with no premise on the walk left: a finished walk has
-/// yielded the one list of the definition, where the builder has no order and no filter (`plain`);
-/// and with closures wherever there is a scene of them, as `a_scene_with_closures` says (`closures`).
+/// yielded the one list of the definition. So it is where the builder has no comparison and no filter
+/// (`plain`), and with closures wherever there is a scene of them, as `a_scene_with_closures` says
+/// (`closures`).
 pub fn a_tree_in_memory(builder: &WalkBuilder, tree: &MemoryTree, env: &Env)
     ensures plain { (o : Outside) (all : List Item) → IsOutside (tree_of tree.now) env.now builder.now.options o
         → builder.now.sorter ≡ None → builder.now.filter ≡ None

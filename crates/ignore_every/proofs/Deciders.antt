@@ -69,7 +69,7 @@ ignores_then rules text is_dir (Some k) last known = go (slice_get rules k) refl
     )
 
 -- what is within a list is there
-slice_is_there : (rules : List Rule) (k : ℕ) → k < length rules → slice_get rules k ≡ None → ⊥
+pub slice_is_there : (rules : List Rule) (k : ℕ) → k < length rules → slice_get rules k ≡ None → ⊥
 slice_is_there [] k less none = omega (arith, less)
 slice_is_there (rule ∷ rules) zero less none = cc none
 slice_is_there (rule ∷ rules) (suc k) less none = slice_is_there rules k (omega (arith, less)) none

@@ -1,4 +1,5 @@
 pub mod Deciders
+pub mod Folders
 pub mod Walks
 pub mod Walked
 pub mod Closed
@@ -11,6 +12,7 @@ pub mod Overruling
 pub mod RowLemmas
 pub mod Saying
 pub mod Texts
+mod WorkedFindings
 mod WorkedPaths
 mod WorkedReasons
 mod WorkedVerdicts

@@ -8,7 +8,8 @@ use Rattle.ignore_rules.specs.Answer.{does_apply, list_answer}
 use Rattle.ignore_rules.specs.Rules.{Rule}
 use Rattle.ignore_every.specs.Machines.{IsLastOf, ignores, ignores_at}
 use Rattle.ignore_every.specs.Questions.{Decides}
-use Rattle.ignore_every.specs.Verdicts.{Says, IsSaid, said_verdict, verdict_of}
+use Rattle.ignore_every.specs.Verdicts.{IsDifference, IsSaid, SaySame, Says, counted_as, said_verdict, verdict_of}
+use Rattle.ignore_every.specs.declared.said.Counted.{Counted}
 use Rattle.ignore_every.specs.declared.said.Said.{Said}
 use Rattle.ignore_every.specs.declared.said.Said.TheVariants as S
 use Rattle.ignore_every.specs.declared.said.Verdict.{Verdict}
@@ -54,3 +55,12 @@ one_verdict rules path is_dir v w (inl a) (inl b) = a.1 ∙ sym b.1
 one_verdict rules path is_dir v w (inl a) (inr b) = absurd (a.0 b.0.0 b.0.1 b.0.2 b.0.3)
 one_verdict rules path is_dir v w (inr a) (inl b) = absurd (b.0 a.0.0 a.0.1 a.0.2 a.0.3)
 one_verdict rules path is_dir v w (inr a) (inr b) = a.1 ∙ sym b.1
+
+-- where lists differ at a question, what they say of it doesn't count as the same
+pub differ_not_same : (counted : Counted) (old new : List Rule) (path : Chars) (is_dir : Bool) (before after : Said)
+    → IsDifference counted old new path is_dir before after → SaySame counted old new → ⊥
+differ_not_same counted old new path is_dir before after d same =
+    let alike = same path is_dir d.clean in
+    let b = one_verdict old path is_dir _ alike.0 (said_says old path is_dir before d.said_before) alike.2 in
+    let a = one_verdict new path is_dir _ alike.1 (said_says new path is_dir after d.said_after) alike.3 in
+    d.differ (ap (counted_as counted) b ∙ (alike.4 ∙ sym (ap (counted_as counted) a)))

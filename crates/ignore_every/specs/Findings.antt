@@ -11,7 +11,7 @@ use Rattle.ignore_every.specs.declared.findings.Finding.TheVariants.{Live, DeadB
 use Rattle.ignore_every.specs.declared.place.Place.{Place}
 use Rattle.ignore_every.specs.Machines.{IsIn, Table, ignores}
 use Rattle.ignore_every.specs.Names.{is_named}
-use Rattle.ignore_every.specs.Questions.{IsClean, IsAsked, Decides}
+use Rattle.ignore_every.specs.Questions.{IsClean, IsAsked, Decides, HasNoIgnoredAncestor}
 
 -- the rule decides on no question of these
 abbrev pub DecidesNever : Bool → List Rule → ℕ → Type 0
@@ -23,10 +23,11 @@ pub record IsShortest (reached : Bool) (rules : List Rule) (index : ℕ) (path :
   pub decided : Decides rules index path is_dir
   pub least : (other : Chars) (kind : Bool) → IsAsked reached rules other → Decides rules index other kind → length path ≤ length other
 
--- the folder is on the way to the path, and this rule, which ignores, decides on it
+-- the folder is the first on the way to the path that the rules ignore, and this rule decides on it
 pub record IsInFolder (rules : List Rule) (path folder : Chars) (index : ℕ) : Type 0 where
   pub below : Chars
   pub way : path ≡ folder ++ slash ∷ below
+  pub reached : HasNoIgnoredAncestor rules folder
   pub decided : Decides rules index folder true
   pub ignored : ignores rules (Some index) ≡ true
 

@@ -1,12 +1,12 @@
 //! Which rule decides on a path.
-ghost use Rattle.std.specs.Prelude.{◌≡◌, IsTrue, IfOk, IfSome, false, true, Some, slice_get, string_bytes};
+ghost use Rattle.std.specs.Prelude.{◌≡◌, IsTrue, IfOk, IfSome, None, false, length, true, Some, slice_get, string_bytes};
 ghost use Rattle.std.specs.Char.{IsScalar};
 ghost use Rattle.std.specs.Str.{chars};
 ghost use Rattle.ignore_rules.specs.Answer.{does_apply};
 ghost use Rattle.ignore_rules.specs.Rules.{Rule};
 ghost use Rattle.ignore_every.specs.Findings.{IsInFolder};
-ghost use Rattle.ignore_every.specs.Machines.{ignores};
-ghost use Rattle.ignore_every.specs.Questions.{Decides};
+ghost use Rattle.ignore_every.specs.Machines.{IsLastOf, ignores};
+ghost use Rattle.ignore_every.specs.Questions.{Decides, IsIgnored};
 
 use crate::places::ignores;
 use ignore_rules::gitignore::Glob;
@@ -51,12 +51,14 @@ pub(crate) fn decides(
     Ok(true)
 }
 
-/// The last rule that applies to a path.
+/// The last rule that applies to a path, which is the one that decides.
 pub(crate) fn last_applying(
     rules: &[Glob],
     path: &str,
     is_dir: bool,
-) -> Result<Option<usize>, AllocError> {
+) -> Result<Option<usize>, AllocError>
+    ensures { IfOk result (IsLastOf rules.now 0 (length rules.now) (chars path.now) is_dir) }
+{
     for index in (0..rules.len()).rev() {
         if applies_at(rules, index, path, is_dir)? {
             return Ok(Some(index));
@@ -65,20 +67,15 @@ pub(crate) fn last_applying(
     Ok(None)
 }
 
-/// The rule that decides on a folder and ignores it.
+/// The rule that decides on a folder, where it ignores it.
 fn ignoring(rules: &[Glob], folder: &str) -> Result<Option<usize>, AllocError>
     ensures decided { IfOk result (λ found. IfSome found (λ index. Decides rules.now index (chars folder.now) true)) }
     ensures ignored { IfOk result (λ found. IfSome found (λ index. ignores rules.now (Some index) ≡ true)) }
+    ensures none { IfOk result (λ found. found ≡ None → IsIgnored rules.now (chars folder.now) true → ⊥) }
 {
-    let Some(index) = last_applying(rules, folder, true)? else {
-        return Ok(None);
-    };
-    if !ignores(rules, Some(index)) {
-        return Ok(None);
-    }
-    let is_decided = decides(rules, index, folder, true)?;
-    if is_decided {
-        Ok(Some(index))
+    let last = last_applying(rules, folder, true)?;
+    if ignores(rules, last) {
+        Ok(last)
     } else {
         Ok(None)
     }
@@ -90,6 +87,7 @@ fn ignoring_before(rules: &[Glob], folder: &str, c: char) -> Result<Option<usize
     ensures scalar { IsScalar c }
     ensures decided { IfOk result (λ found. IfSome found (λ index. Decides rules.now index (chars folder.now) true)) }
     ensures ignored { IfOk result (λ found. IfSome found (λ index. ignores rules.now (Some index) ≡ true)) }
+    ensures none { IfOk result (λ found. found ≡ None → c ≡ 47 → IsIgnored rules.now (chars folder.now) true → ⊥) }
 {
     if c != '/' {
         return Ok(None);

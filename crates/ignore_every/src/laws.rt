@@ -4,7 +4,8 @@ ghost use Rattle.ignore_rules.specs.Rules.{Rule};
 ghost use Rattle.ignore_base.specs.Text.{Chars};
 ghost use Rattle.ignore_every.specs.Questions.{IsAsked};
 ghost use Rattle.ignore_every.specs.Searches.{Scope, IsSoundSearch, IsPlaceOf};
-ghost use Rattle.ignore_every.specs.Verdicts.{IsSaid, Says, said_verdict};
+ghost use Rattle.ignore_every.specs.Verdicts.{IsDifference, IsSaid, SaySame, Says, said_verdict};
+ghost use Rattle.ignore_every.specs.declared.said.Counted.{Counted};
 ghost use Rattle.ignore_every.specs.declared.said.Said.{Said};
 ghost use Rattle.ignore_every.specs.declared.said.Verdict.{Verdict};
 ghost use Rattle.ignore_every.specs.declared.place.Place.{Place};
@@ -15,10 +16,16 @@ pub fn what_is_said_is_the_verdict()
         → Says rules path is_dir (said_verdict said) }
 {}
 
-/// A list says one verdict of a question, and so where two lists differ they don't say the same.
+/// A list says one verdict of a question.
 pub fn a_list_says_one_verdict()
     ensures { (rules : List Rule) (path : Chars) (is_dir : Bool) (v : Verdict) (w : Verdict) → Says rules path is_dir v → Says rules path is_dir w
         → v ≡ w }
+{}
+
+/// Two lists that differ at a question don't say the same.
+pub fn lists_that_differ_dont_say_the_same()
+    ensures { (counted : Counted) (old new : List Rule) (path : Chars) (is_dir : Bool) (before after : Said)
+        → IsDifference counted old new path is_dir before after → SaySame counted old new → ⊥ }
 {}
 
 /// A closed search misses nothing: each clean path, or each that the rules reach, has a place in it,

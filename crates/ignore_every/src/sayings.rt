@@ -7,54 +7,25 @@ ghost use Rattle.ignore_every.specs.Questions.{HasNoIgnoredAncestor};
 ghost use Rattle.ignore_every.specs.Verdicts.{IsSaid};
 
 use crate::asked::asked_path;
-use crate::decided::{applies_at, decides, folder_on, last_applying};
+use crate::decided::{folder_on, last_applying};
 use crate::error::Error;
 use crate::places::ignores;
 use crate::said::{Folder, Said};
 use ignore_rules::gitignore::{Gitignore, Glob};
 use std::alloc::{AllocError, Global};
 
-/// Whether no rule applies to a path.
-fn do_none_apply(rules: &[Glob], path: &str, is_dir: bool) -> Result<bool, AllocError>
-    ensures { IfOk result (λ yes. IsTrue yes → (i : ℕ) (rule : Rule) → slice_get rules.now i ≡ Some rule
-        → does_apply (chars path.now) is_dir rule ≡ false) }
-{
-    for index in 0..rules.len() {
-        if applies_at(rules, index, path, is_dir)? {
-            return Ok(false);
-        }
-    }
-    Ok(true)
-}
-
-/// What the rule says that decides, if it does.
-fn said_by(rules: &[Glob], index: usize, path: &str, is_dir: bool) -> Result<Said, Error>
+/// What the list says of a path that it reaches: what the last rule says that applies.
+fn said_reached(rules: &[Glob], path: &str, is_dir: bool) -> Result<Said, AllocError>
     ensures { IfOk result (λ said. HasNoIgnoredAncestor rules.now (chars path.now) → IsSaid rules.now (chars path.now) is_dir said) }
 {
-    let is_decided = decides(rules, index, path, is_dir)?;
-    if !is_decided {
-        return Err(Error::Rejected);
-    }
+    let Some(index) = last_applying(rules, path, is_dir)? else {
+        return Ok(Said::Nothing);
+    };
     if ignores(rules, Some(index)) {
         Ok(Said::Ignored(index))
     } else {
         Ok(Said::Whitelisted(index))
     }
-}
-
-/// What the list says of a path that it reaches.
-fn said_reached(rules: &[Glob], path: &str, is_dir: bool) -> Result<Said, Error>
-    ensures { IfOk result (λ said. HasNoIgnoredAncestor rules.now (chars path.now) → IsSaid rules.now (chars path.now) is_dir said) }
-{
-    let last = last_applying(rules, path, is_dir)?;
-    let Some(index) = last else {
-        let are_none = do_none_apply(rules, path, is_dir)?;
-        if !are_none {
-            return Err(Error::Rejected);
-        }
-        return Ok(Said::Nothing);
-    };
-    said_by(rules, index, path, is_dir)
 }
 
 /// What a list says of a question.

@@ -4,8 +4,9 @@ use Rattle.ignore_levels.specs.Levels.{Keeps, level_at}
 use Rattle.ignore_levels.specs.declared.list.Level.{Level}
 use Rattle.ignore_levels.specs.declared.list.Place.{Place}
 use Rattle.ignore_levels.specs.declared.list.Slot.{Slot}
-use Rattle.ignore_guide.specs.Guide.{Owns, parent_at, parent_of}
-use Rattle.ignore_guide.specs.Guide.Owns.{first, next}
+use Rattle.ignore_guide.specs.Forest.{Owns}
+use Rattle.ignore_guide.specs.Guide.{parent_at, parent_of}
+use Rattle.ignore_guide.specs.Forest.Owns.{first, next}
 
 -- where each level stays
 pub owns-kept : {old new : List Slot} (keeps : Keeps old new) (floor : Option Place) {from : Option Place} {owned : Place} → Owns old floor from owned

@@ -1,5 +1,6 @@
 -- Any call may be out of memory.
-use Rattle.ignore_guide.specs.Hosted.{CallRefused, Comes}
+use Rattle.ignore_guide.specs.Hosted.{CallRefused, Comes, IsNewPlace, IsPlaced}
+use Rattle.ignore_guide.specs.Places.{KeepsOthers, entered_at}
 use Rattle.ignore_guide.specs.declared.error.GuideError.TheVariants.{Memory}
 use Rattle.ignore_guide.specs.declared.hosted.Call.{Call}
 use Rattle.ignore_guide.specs.declared.hosted.Call.TheVariants as call
@@ -16,7 +17,7 @@ use Rattle.ignore_dir.specs.Steps.{Reached, entry}
 use Rattle.ignore_dir.specs.declared.dir.Dir.{Dir}
 use Rattle.ignore_base.specs.Paths.{join_of}
 use Rattle.ignore_base.specs.Problem.{problem_of}
-use Rattle.std.proofs.Common.{◌+◌, ℕ, List, Result, Ok, Err, IfOk, option_map, refl, sym, subst, ◌≡◌}
+use Rattle.std.proofs.Common.{◌+◌, ℕ, List, None, Result, Ok, Err, IfOk, option_map, refl, sym, subst, ◌≡◌}
 
 pub memory_refuses : (places : Places) (c : Call) → CallRefused places c Memory
 memory_refuses places (call.Root root) = refl
@@ -33,3 +34,10 @@ enter-comes files told asked parent name text old (Ok a) new is t h =
     subst (λ (c : Call). Comes files told c old a new) (sym is)
     (subst (λ (n : List ℕ). Comes files told (call.Enter parent n) old a new) t h)
 enter-comes files told asked parent name text old (Err e) new is t h = tt
+
+-- its place is new, and where the call says
+pub new-place : (asked c : Call) → asked ≡ c → (r : Result Arrived GuideError) (old new : Places) → IfOk r (λ a. entered_at old a.place ≡ None)
+    → IfOk r (λ a. IsPlaced c new a.place) → IfOk r (λ a. KeepsOthers a.place old new) → IfOk r (λ a. IsNewPlace asked old a.place new)
+new-place asked c is (Ok a) old new vacant within stay =
+    record { vacant = vacant; within = subst (λ (x : Call). IsPlaced x new a.place) (sym is) within; stay = stay }
+new-place asked c is (Err e) old new vacant within stay = tt

@@ -1,5 +1,5 @@
 -- What a place stands for when directories are added below it, and when levels stay.
-use Rattle.std.proofs.Common.{◌≡◌, ℕ, suc, ◌+◌, ◌<◌, ◌≤◌, Bool, true, false, cond, List, [], ◌∷◌, ◌++◌, length, map, reverse, All, Option, codes, sym, ap, ◌∙◌, subst, arith}
+use Rattle.std.proofs.Common.{◌≡◌, ℕ, suc, ◌+◌, ◌<◌, ◌≤◌, Bool, true, false, cond, List, [], ◌∷◌, ◌++◌, length, map, reverse, All, Option, None, Some, codes, sym, ap, ◌∙◌, subst, arith}
 use Rattle.std.proofs.lemmas.List.{length-append, length-map, reverse-append}
 use Rattle.std.proofs.lemmas.List.Elements.{All-cons, All-push}
 use Rattle.ignore_base.specs.Problem.{Problem}
@@ -14,15 +14,16 @@ use Rattle.ignore_dir.specs.declared.settings.Settings.{Settings}
 use Rattle.ignore_dir.proofs.AboveByLemmas.{are-length}
 use Rattle.ignore_dir.proofs.AboveLemmas.{length-directories}
 use Rattle.ignore_files.specs.declared.files.Files.{Ghosts as Files}
-use Rattle.ignore_levels.specs.Levels.{IsBelow, IsChain, IsRising, Keeps, counting, counts, slots_of}
+use Rattle.ignore_levels.specs.Levels.{IsBelow, IsChain, IsRising, Keeps, counting, counts}
 use Rattle.ignore_levels.specs.declared.list.Place.{Place as LevelPlace}
 use Rattle.ignore_levels.specs.declared.list.Slot.{Slot}
 use Rattle.ignore_levels.proofs.ChainLemmas.{chain-kept}
 use Rattle.ignore_levels.proofs.RisingLemmas.{Under, rising-below}
-use Rattle.ignore_guide.specs.Guide.{KeepsPlaces, Stands}
-use Rattle.ignore_guide.specs.Places.{KeepsAll}
-use Rattle.ignore_guide.specs.declared.guide.Guide.{Guide}
+use Rattle.ignore_guide.specs.Forest.{Stands, StandsIn}
+use Rattle.ignore_guide.specs.Places.{KeepsOthers, entered_at}
 use Rattle.ignore_guide.specs.declared.places.Entered.{Entered}
+use Rattle.ignore_guide.specs.declared.places.Place.{Place}
+use Rattle.ignore_guide.specs.declared.places.Places.{Places}
 
 -- one directory more
 all-step : (P : Placed → Type 0) (p : Placed) (chain : List Placed) → P p → All P chain → (b : Bool) → All P (cond b (p ∷ chain) chain)
@@ -46,14 +47,22 @@ pub stands-kept : (old new : List Slot) (dir : Entered) (at : Reached) → ((pla
 stands-kept old new dir at keeps s =
     record { chain = keeps dir.level (counting at.chain) s.chain; inside = s.inside; text = s.text; path = s.path }
 
-pub places-kept : (old new : Guide) → KeepsAll old.places new.places → ((place : Option LevelPlace) (chain : List Placed)
-    → IsChain (slots_of old.levels) place chain → IsChain (slots_of new.levels) place chain) → KeepsPlaces old new
-places-kept old new places levels place depth at s = record {
+pub places-kept : (old new : List Slot) (before after : Places)
+    → ((place : Place) (e : Entered) → entered_at before place ≡ Some e → entered_at after place ≡ Some e)
+    → ((place : Option LevelPlace) (chain : List Placed) → IsChain old place chain → IsChain new place chain)
+    → (place : Place) (depth : ℕ) (at : Reached) → StandsIn old before place depth at → StandsIn new after place depth at
+places-kept old new before after places levels place depth at s = record {
   dir = s.dir;
   there = places place s.dir s.there;
   deep = s.deep;
-  stands = stands-kept (slots_of old.levels) (slots_of new.levels) s.dir at levels s.stands;
+  stands = stands-kept old new s.dir at levels s.stands;
 }
+
+-- where a directory was entered
+pub others-stay : (before after : Places) (own : Place) → entered_at before own ≡ None → KeepsOthers own before after → (place : Place)
+    (e : Entered) → entered_at before place ≡ Some e → entered_at after place ≡ Some e
+others-stay before after own none others place e at =
+    others place (λ same. let n : entered_at before place ≡ None = ap (entered_at before) same ∙ none in absurd (cc (at, n))) ∙ at
 
 pub chains-kept : (old new : List Slot) → Keeps old new → (place : Option LevelPlace) (chain : List Placed) → IsChain old place chain → IsChain new place chain
 chains-kept old new keeps place chain h = chain-kept old new keeps h

@@ -1,10 +1,10 @@
 -- Worked places: one that is entered, one whose number serves a later directory, one that is free;
 -- and sizes at a limit.
-use Rattle.std.proofs.Common.{◌≡◌, [], None, Some, true, false, refl, codes}
+use Rattle.std.proofs.Common.{◌≡◌, [], ◌∷◌, None, Some, true, false, refl, codes}
 use Rattle.ignore_base.specs.declared.match_result.Match.{Match}
 use Rattle.ignore_guide.specs.Guide.{is_over}
 use Rattle.ignore_guide.specs.Names.{is_name}
-use Rattle.ignore_guide.specs.Places.{dir_by}
+use Rattle.ignore_guide.specs.Spots.{children_in, dir_by}
 use Rattle.ignore_guide.specs.Reasons.{why_within}
 use Rattle.ignore_guide.specs.declared.places.Entered.{Entered}
 use Rattle.ignore_guide.specs.declared.places.Held.TheVariants.{Entered as Holds, Free}
@@ -19,6 +19,15 @@ by_its_serial e = (refl, refl)
 -- after it was left, nothing is
 pub after_it_was_left : dir_by 7 (Some (record { serial = 7; children = 0; held = Free None })) ≡ None
 after_it_was_left = refl
+
+-- of a root with the serial 1 and a directory in it, the root has one in it, and none once that one was left
+pub in_the_root : (e : Entered)
+    → (children_in (record { serial = 1; children = 1; held = Holds (record e { parent = None }) }
+    ∷ record { serial = 2; children = 0; held = Holds (record e { parent = Some (record { index = 0; serial = 1 }) }) } ∷ [])
+    (record { index = 0; serial = 1 }) ≡ 1)
+    × (children_in (record { serial = 1; children = 0; held = Holds (record e { parent = None }) }
+    ∷ record { serial = 2; children = 0; held = Free None } ∷ []) (record { index = 0; serial = 1 }) ≡ 0)
+in_the_root e = (refl, refl)
 
 -- 10 bytes are above a limit of 9, and neither above 10 nor above none; an unknown size is above none
 pub sizes : (is_over (Some 9) (Some 10) ≡ true) × (is_over (Some 10) (Some 10) ≡ false) × (is_over None (Some 10) ≡ false)

@@ -1,10 +1,10 @@
 -- What a host is asked, by what it told.
 use Rattle.std.specs.Prelude.{◌≡◌, Bool, true, false, not, ◌&&◌, ◌||◌, List, Option, None, Some, is_some}
-use Rattle.std.specs.BTreeMap.{get_by_text}
 use Rattle.std.specs.List.{find}
 use Rattle.ignore_base.specs.Text.{Path}
 use Rattle.ignore_excludes.specs.ExcludesSearch.{FilesGive, LeadsTo}
 use Rattle.ignore_files.specs.declared.env.Env.{Env}
+use Rattle.ignore_guide.specs.Answers.{answer_at}
 use Rattle.ignore_guide.specs.Told.{ReadTold, is_lacked}
 use Rattle.ignore_guide.specs.declared.missing.Question.{Question}
 use Rattle.ignore_guide.specs.declared.missing.Wanted.{Wanted}
@@ -13,17 +13,17 @@ use Rattle.ignore_guide.specs.declared.told.Told.{Told}
 
 -- what can be read at a path was told
 abbrev pub is_read : Told → Path → Bool
-is_read told path = is_some (get_by_text told.reads path)
+is_read told path = is_some (answer_at told.reads.list.items path)
 
 -- what a path leads to was told: nothing is at what is lacked
 abbrev pub is_known : Told → Path → Bool
-is_known told path = is_lacked told path || is_some (get_by_text told.kinds path)
+is_known told path = is_lacked told path || is_some (answer_at told.kinds.list.items path)
 
 -- what is wanted of a path was told: of a file both
 abbrev pub is_answered : Wanted → Told → Path → Bool
 is_answered wanted.Kind told path = is_known told path
 is_answered wanted.File told path = is_lacked told path || (is_known told path && is_read told path)
-is_answered wanted.Canonical told path = is_some (get_by_text told.paths path)
+is_answered wanted.Canonical told path = is_some (answer_at told.paths.list.items path)
 
 -- what a question asks was told
 abbrev pub is_told : Told → Question → Bool

@@ -1,5 +1,5 @@
 -- What a place of a guide stands for, and what becomes of an entry there.
-use Rattle.std.specs.Prelude.{◌≡◌, ◌≢◌, ℕ, Bool, false, nat_lt, All, List, [], ◌∷◌, ◌++◌, length, reverse, Option, None, Some, Result, Ok, Err, if◌then◌else◌}
+use Rattle.std.specs.Prelude.{◌≡◌, ℕ, Bool, false, nat_lt, List, [], ◌∷◌, ◌++◌, length, reverse, Option, None, Some, Result, Ok, Err, if◌then◌else◌}
 use Rattle.ignore_base.specs.Paths.{join_of}
 use Rattle.ignore_base.specs.Text.{Bytes, Path}
 use Rattle.ignore_base.specs.Problem.{Problem}
@@ -12,7 +12,7 @@ use Rattle.ignore_files.specs.declared.files.Files.{Ghosts as Files}
 use Rattle.ignore_files.specs.declared.types.Metadata.{Metadata}
 use Rattle.ignore_dir.specs.AboveBy.{IsAboveBy}
 use Rattle.ignore_dir.specs.Limits.{beyond, is_beyond, limited, no_match, size_limit}
-use Rattle.ignore_dir.specs.Lists.{IsAfterSlash, Placed}
+use Rattle.ignore_dir.specs.Lists.{Placed}
 use Rattle.ignore_dir.specs.Load.{AreLoads, Loaded, joined_some}
 use Rattle.ignore_dir.specs.LoadsBy.{LoadsBy, reads_of, stats_of}
 use Rattle.ignore_dir.specs.Steps.{Reached, entry, verdict_at}
@@ -23,13 +23,13 @@ use Rattle.ignore_dir.specs.declared.settings.Settings.{Settings}
 use Rattle.ignore_dir.specs.declared.verdict.Verdict.{Verdict}
 use Rattle.ignore_dir.specs.declared.verdict.Verdict.TheVariants as v
 use Rattle.ignore_levels.specs.Reasons.{Why, placed_why}
-use Rattle.ignore_levels.specs.Levels.{IsChain, Passes, counting, level_at, slots_of}
+use Rattle.ignore_levels.specs.Levels.{level_at, slots_of}
 use Rattle.ignore_levels.specs.declared.list.Level.{Level}
 use Rattle.ignore_levels.specs.declared.list.Place.{Place as LevelPlace}
 use Rattle.ignore_levels.specs.declared.list.Slot.{Slot}
 use Rattle.ignore_why.specs.Cited.{Cited, cited}
+use Rattle.ignore_guide.specs.Forest.{StandsIn}
 use Rattle.ignore_guide.specs.Names.{is_name}
-use Rattle.ignore_guide.specs.Places.{entered_at}
 use Rattle.ignore_guide.specs.declared.error.GuideError.{GuideError}
 use Rattle.ignore_guide.specs.declared.error.GuideError.TheVariants as error
 use Rattle.ignore_guide.specs.declared.guide.Guide.{Guide}
@@ -37,24 +37,14 @@ use Rattle.ignore_guide.specs.declared.judge.Entry.{Entry}
 use Rattle.ignore_guide.specs.declared.places.Entered.{Entered}
 use Rattle.ignore_guide.specs.declared.places.Place.{Place}
 
--- the levels give a directory that was entered this chain; it has this text and this path
-pub record Stands (slots : List Slot) (dir : Entered) (at : Reached) : Type 0 where
-  pub chain : IsChain slots dir.level (counting at.chain)
-  pub inside : All (λ p. IsAfterSlash at.text p.1) (counting at.chain)
-  pub text : dir.text ≡ at.text
-  pub path : dir.path ≡ at.path
-
 -- the texts by which rules know an entry of a directory: its path as the directories around it see
 -- it, and its path
 abbrev pub AreTexts : Entered → Bytes → Bytes → Path → Type 0
 AreTexts dir name text path = (text ≡ dir.text ++ name) × (path ≡ join_of dir.path name)
 
 -- a place stands for the directory that is reached, whose entries are so many names below the root
-pub record StandsFor (g : Guide) (place : Place) (depth : ℕ) (at : Reached) : Type 0 where
-  pub dir : Entered
-  pub there : entered_at g.places place ≡ Some dir
-  pub deep : dir.depth ≡ depth
-  pub stands : Stands (slots_of g.levels) dir at
+abbrev pub StandsFor : Guide → Place → ℕ → Reached → Type 0
+StandsFor g place depth at = StandsIn (slots_of g.levels) g.places place depth at
 
 -- each place that stands for a directory still does
 abbrev pub KeepsPlaces : Guide → Guide → Type 0
@@ -124,18 +114,6 @@ why_at s o at is_dir = placed_why s o at.chain at.text at.path is_dir
 -- the same by name
 abbrev pub cause_at : Settings → Outside → Reached → Bool → Match Cited
 cause_at s o at is_dir = match_map (cited at.text) (why_at s o at is_dir)
-
--- the levels from one on, up to another that stays
-pub data Owns (slots : List Slot) (floor : Option LevelPlace) : Option LevelPlace → LevelPlace → Type 0 where
-  first : {place : LevelPlace} → Some place ≢ floor → Owns slots floor (Some place) place
-  next : {place owned : LevelPlace} {level : Level} → Some place ≢ floor → level_at slots place ≡ Some level
-      → Owns slots floor level.parent owned → Owns slots floor (Some place) owned
-
--- no chain of the one place passes what goes with the other
-abbrev pub AreApart : Guide → Place → Place → Type 0
-AreApart g left other =
-    (dir stays : Entered) → entered_at g.places left ≡ Some dir → entered_at g.places other ≡ Some stays
-    → (level : LevelPlace) → Owns (slots_of g.levels) dir.around dir.level level → Passes (slots_of g.levels) stays.level level → ⊥
 
 -- P holds of each tree with which the files are consistent, with the loads of its directories by the
 -- settings of a guide

@@ -1,6 +1,5 @@
 -- How far a call of a guide has come whose host is asked.
-use Rattle.std.specs.Prelude.{◌≡◌, ℕ, ◌+◌, false, List, Option, None, Some, Result, Ok, Err, option_map, if◌then◌else◌}
-use Rattle.std.specs.BTreeMap.{get_by_text}
+use Rattle.std.specs.Prelude.{◌≡◌, ℕ, ◌+◌, false, true, List, Option, None, Some, Result, Ok, Err, option_map, if◌then◌else◌}
 use Rattle.std.specs.Str.{bytes_eq}
 use denote.Bor.{Bor}
 use Rattle.ignore_base.specs.Paths.{join_of}
@@ -12,13 +11,17 @@ use Rattle.ignore_dir.specs.Lists.{Placed}
 use Rattle.ignore_dir.specs.LoadsBy.{LoadsBy, reads_of, stats_of}
 use Rattle.ignore_dir.specs.Steps.{Reached, entry}
 use Rattle.ignore_dir.specs.declared.dir.Dir.{Dir}
+use Rattle.ignore_files.specs.Tree.{Tree}
 use Rattle.ignore_files.specs.declared.files.Files.{Ghosts as Files}
 use Rattle.ignore_files.specs.declared.types.Contents.{Contents}
 use Rattle.ignore_files.specs.declared.types.FileType.{FileType}
 use Rattle.ignore_files.specs.declared.types.Metadata.{Metadata}
+use Rattle.ignore_guide.specs.Answers.{answer_at}
 use Rattle.ignore_guide.specs.Asking.{is_told}
 use Rattle.ignore_guide.specs.Guide.{IsRootBy, StandsFor, holding, root_reached}
 use Rattle.ignore_guide.specs.Names.{IsRefused}
+use Rattle.ignore_guide.specs.Places.{IsIn, IsSamePlaces, KeepsOthers, entered_at}
+use Rattle.ignore_guide.specs.Told.{kind_alone}
 use Rattle.ignore_guide.specs.declared.error.GuideError.{GuideError}
 use Rattle.ignore_guide.specs.declared.error.GuideError.TheVariants.{Memory}
 use Rattle.ignore_guide.specs.declared.guide.Arrived.{Arrived}
@@ -31,6 +34,7 @@ use Rattle.ignore_guide.specs.declared.hosted.Step.TheVariants as step
 use Rattle.ignore_guide.specs.declared.missing.Question.{Question}
 use Rattle.ignore_guide.specs.declared.missing.Wanted.{Wanted}
 use Rattle.ignore_guide.specs.declared.missing.Wanted.TheVariants as wanted
+use Rattle.ignore_guide.specs.declared.places.Place.{Place}
 use Rattle.ignore_guide.specs.declared.places.Places.{Places}
 use Rattle.ignore_guide.specs.declared.told.Told.{Told}
 
@@ -54,6 +58,22 @@ CallRefused places (call.Enter parent name) e = IsRefused places parent name e
 abbrev pub StepGives : Files Told → Call → Told → Guide → Step → Guide → Type 0
 StepGives files call told old (step.Wants w) new = (new ≡ old) × (w.call ≡ call) × (w.told ≡ told) × (is_told told w.question ≡ false)
 StepGives files call told old (step.Arrived r) new = Comes files told call old r new
+
+-- the directory of a call is in the one at the place that the call names, and a root is in none
+abbrev pub IsPlaced : Call → Places → Place → Type 0
+IsPlaced (call.Root root) places place = (parent : Place) → IsIn places parent place → ⊥
+IsPlaced (call.Enter parent name) places place = IsIn places parent place
+
+-- no directory was at the new place, which is where the call says; what is at each other place stays
+pub record IsNewPlace (asked : Call) (old : Places) (place : Place) (new : Places) : Type 0 where
+  pub vacant : entered_at old place ≡ None
+  pub within : IsPlaced asked new place
+  pub stay : KeepsOthers place old new
+
+-- where a call waits each place is as it was, and else its directory has a new one
+abbrev pub StepPlaces : Call → Places → Step → Places → Type 0
+StepPlaces asked old (step.Wants w) new = IsSamePlaces old new
+StepPlaces asked old (step.Arrived r) new = IsNewPlace asked old r.place new
 
 -- what a host says that a path leads to, if anywhere; it says no size
 abbrev pub kind_answer : Option FileType → Result Metadata Fault
@@ -95,7 +115,13 @@ path_by wanted.Canonical g = Some (path_answer g.path)
 
 -- what was told, and the answer to a question with it
 pub record IsToldOf (q : Question) (g : Given) (old new : Told) : Type 0 where
-  pub kinds : (text : Path) → get_by_text new.kinds text ≡ told_more q.path (kind_by q.wanted g) (get_by_text old.kinds) text
-  pub reads : (text : Path) → get_by_text new.reads text ≡ told_more q.path (read_by q.wanted g) (get_by_text old.reads) text
-  pub paths : (text : Path) → get_by_text new.paths text ≡ told_more q.path (path_by q.wanted g) (get_by_text old.paths) text
+  pub kinds : (text : Path) → answer_at new.kinds.list.items text ≡ told_more q.path (kind_by q.wanted g) (answer_at old.kinds.list.items) text
+  pub reads : (text : Path) → answer_at new.reads.list.items text ≡ told_more q.path (read_by q.wanted g) (answer_at old.reads.list.items) text
+  pub paths : (text : Path) → answer_at new.paths.list.items text ≡ told_more q.path (path_by q.wanted g) (answer_at old.paths.list.items) text
   pub lacked : new.lacked ≡ old.lacked
+
+-- a host gives what a tree has at the path of a question
+pub record IsGivenOf (tree : Tree) (q : Question) (g : Given) : Type 0 where
+  pub kind : (answer : Result Metadata Fault) → kind_by q.wanted g ≡ Some answer → kind_alone (tree.stat q.path true) ≡ answer
+  pub read : (answer : Result Contents Fault) → read_by q.wanted g ≡ Some answer → tree.contents q.path ≡ answer
+  pub path : (answer : Result Path Fault) → path_by q.wanted g ≡ Some answer → tree.canonical q.path ≡ answer

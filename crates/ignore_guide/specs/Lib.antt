@@ -1,7 +1,11 @@
+pub mod Answers
 pub mod Asking
+pub mod Forest
 pub mod Guide
 pub mod Hosted
 pub mod Names
 pub mod Places
 pub mod Reasons
+pub mod Settle
+pub mod Spots
 pub mod Told

@@ -2,7 +2,7 @@
 use Rattle.std.specs.Prelude.{◌≡◌, Bool, true, false, not, ◌&&◌, IsSome, None, codes}
 use Rattle.ignore_base.specs.Paths.{has_slash, is_proper}
 use Rattle.ignore_base.specs.Text.{Bytes}
-use Rattle.ignore_guide.specs.Places.{entered_at, has_children_at}
+use Rattle.ignore_guide.specs.Places.{IsIn, entered_at}
 use Rattle.ignore_guide.specs.declared.error.GuideError.{GuideError}
 use Rattle.ignore_guide.specs.declared.error.GuideError.TheVariants as error
 use Rattle.ignore_guide.specs.declared.places.Place.{Place}
@@ -33,14 +33,14 @@ IsNoPlace places place error.HasChildren = ⊥
 
 -- a directory may be left: the place is one, and no directory in it was entered and not left
 abbrev pub IsLeft : Places → Place → Type 0
-IsLeft places place = IsSome (entered_at places place) × (has_children_at places place ≡ false)
+IsLeft places place = IsSome (entered_at places place) × ((child : Place) → IsIn places place child → ⊥)
 
 -- why a directory wasn't left: the place is none, or a directory in it was entered and not left
 abbrev pub IsNotLeft : Places → Place → GuideError → Type 0
 IsNotLeft places place error.Memory = ⊥
 IsNotLeft places place error.NoPlace = entered_at places place ≡ None
 IsNotLeft places place error.NoName = ⊥
-IsNotLeft places place error.HasChildren = has_children_at places place ≡ true
+IsNotLeft places place error.HasChildren = (child : Place) × IsIn places place child
 
 -- the text of each
 abbrev pub error_text : GuideError → Bytes

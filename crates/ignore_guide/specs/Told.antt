@@ -1,6 +1,5 @@
 -- What a host told, as answers of files.
 use Rattle.std.specs.Prelude.{◌≡◌, Bool, true, Option, None, Some, Result, Ok, Err, is_some, string_bytes, if◌then◌else◌, []}
-use Rattle.std.specs.BTreeMap.{get_by_text}
 use Rattle.std.specs.List.{list_any}
 use Rattle.ignore_base.specs.Paths.{strip_prefix_of}
 use Rattle.ignore_base.specs.Text.{Path}
@@ -12,6 +11,7 @@ use Rattle.ignore_files.specs.declared.types.Metadata.{Metadata}
 use Rattle.ignore_files.specs.declared.types.Refusal.{Refusal}
 use Rattle.ignore_files.specs.declared.types.Refusal.TheVariants.{Memory}
 use Rattle.ignore_files.specs.declared.types.Refusal.TheVariants.{Fault as Refused}
+use Rattle.ignore_guide.specs.Answers.{answer_at}
 use Rattle.ignore_guide.specs.declared.told.Told.{Told}
 
 -- a path is another at which nothing is, or below it
@@ -24,7 +24,7 @@ is_lacked told path = list_any (λ l. is_absent (string_bytes l) path) told.lack
 
 -- what a followed `stat` answers, if that was told: nothing is at what is lacked
 abbrev pub kind_told : Told → Path → Option (Result Metadata Fault)
-kind_told told path = if is_lacked told path then Some (Err NotFound) else get_by_text told.kinds path
+kind_told told path = if is_lacked told path then Some (Err NotFound) else answer_at told.kinds.list.items path
 
 -- an answer that isn't out of memory is this one
 abbrev pub OrMemory : {A : Type 0} → Option (Result A Fault) → Result A Refusal → Type 0
@@ -38,23 +38,23 @@ abbrev pub StatTold : Told → Path → Bool → Result Metadata Refusal → Typ
 StatTold told path follow answer = OrMemory (if follow then kind_told told path else None) answer
 
 abbrev pub ReadTold : Told → Path → Result Contents Refusal → Type 0
-ReadTold told path answer = OrMemory (get_by_text told.reads path) answer
+ReadTold told path answer = OrMemory (answer_at told.reads.list.items path) answer
 
 abbrev pub CanonicalTold : Told → Path → Result Path Refusal → Type 0
-CanonicalTold told path answer = OrMemory (get_by_text told.paths path) answer
+CanonicalTold told path answer = OrMemory (answer_at told.paths.list.items path) answer
 
 -- nothing was told
 pub record IsFresh (told : Told) : Type 0 where
-  pub kinds : (path : Path) → get_by_text told.kinds path ≡ None
-  pub reads : (path : Path) → get_by_text told.reads path ≡ None
-  pub paths : (path : Path) → get_by_text told.paths path ≡ None
+  pub kinds : (path : Path) → answer_at told.kinds.list.items path ≡ None
+  pub reads : (path : Path) → answer_at told.reads.list.items path ≡ None
+  pub paths : (path : Path) → answer_at told.paths.list.items path ≡ None
   pub lacked : told.lacked.items ≡ []
 
 -- nothing was told but what is lacked
 pub record IsAlmostFresh (told : Told) : Type 0 where
-  pub kinds : (path : Path) → get_by_text told.kinds path ≡ None
-  pub reads : (path : Path) → get_by_text told.reads path ≡ None
-  pub paths : (path : Path) → get_by_text told.paths path ≡ None
+  pub kinds : (path : Path) → answer_at told.kinds.list.items path ≡ None
+  pub reads : (path : Path) → answer_at told.reads.list.items path ≡ None
+  pub paths : (path : Path) → answer_at told.paths.list.items path ≡ None
 
 -- what a path leads to, without its size; for any fault nothing is there
 abbrev pub kind_alone : Result Metadata Fault → Result Metadata Fault
@@ -69,5 +69,5 @@ without_sizes tree = record tree { stat = λ path follow. kind_alone (tree.stat 
 -- canonical paths
 pub record AreOf (tree : Tree) (told : Told) : Type 0 where
   pub kinds : (path : Path) (answer : Result Metadata Fault) → kind_told told path ≡ Some answer → kind_alone (tree.stat path true) ≡ answer
-  pub reads : (path : Path) (answer : Result Contents Fault) → get_by_text told.reads path ≡ Some answer → tree.contents path ≡ answer
-  pub paths : (path : Path) (answer : Result Path Fault) → get_by_text told.paths path ≡ Some answer → tree.canonical path ≡ answer
+  pub reads : (path : Path) (answer : Result Contents Fault) → answer_at told.reads.list.items path ≡ Some answer → tree.contents path ≡ answer
+  pub paths : (path : Path) (answer : Result Path Fault) → answer_at told.paths.list.items path ≡ Some answer → tree.canonical path ≡ answer

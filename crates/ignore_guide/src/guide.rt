@@ -1,29 +1,13 @@
 //! A guide: which directories were entered, and what decides there.
-ghost use Rattle.std.specs.Prelude.{◌≡◌, ◌≢◌, ◌++◌, ◌∷◌, [], ◌+◌, ℕ, All, IfOk, IfErr, List, None, OnErr, OnOk, Option, length, option_map, reverse};
-ghost use Rattle.ignore_base.specs.Paths.{join_of};
-ghost use Rattle.ignore_base.specs.Problem.{problem_of};
-ghost use Rattle.ignore_base.specs.Text.{Path};
-ghost use Rattle.ignore_dir.specs.Above.{paths_above, problems_of_loads};
-ghost use Rattle.ignore_dir.specs.Load.{AreLoads, Loaded, joined_some};
-ghost use Rattle.ignore_dir.specs.LoadsBy.{LoadsBy, reads_of, stats_of};
-ghost use Rattle.ignore_dir.specs.Lists.{IsAfterSlash, Placed};
-ghost use Rattle.ignore_dir.specs.Scene.{scene};
-ghost use Rattle.ignore_dir.specs.Steps.{Reached, entered, entry, reached_in};
-ghost use Rattle.ignore_dir.specs.declared.dir.Dir.{Dir};
-ghost use Rattle.ignore_files.specs.Gives.{IsHonest};
-ghost use Rattle.ignore_files.specs.Tree.{Tree};
-ghost use Rattle.ignore_guide.specs.Guide.{AreApart, InGuide, IsRootBy, IsSameGuide, IsUnchanged, KeepsPlaces, StandsFor, holding, root_reached};
-ghost use Rattle.ignore_guide.specs.Names.{IsAsked, IsLeft, IsNotLeft, IsRefused};
-ghost use Rattle.ignore_guide.specs.Places.{IsGone, entered_at};
-ghost use Rattle.ignore_guide.specs.declared.error.GuideError.TheVariants.{Memory};
-ghost use Rattle.ignore_guide.specs.declared.places.Place.{Place};
-ghost use Rattle.ignore_levels.specs.Levels.{IsBelow, IsChain, counting, slots_of};
+ghost use Rattle.ignore_guide.specs.Forest.{IsForest};
+ghost use Rattle.ignore_levels.specs.Levels.{slots_of};
 
 use crate::error::GuideError;
 use crate::free::free_down;
 use crate::judge::is_name;
-use crate::open::{Opened, Rooted, open, open_root};
-use crate::places::{Entered, Place, Places};
+use crate::open::{open, open_root};
+use crate::places::{Place, Places};
+use crate::settle::{Around, above, settle};
 use ignore_base::Error;
 use ignore_dir::laws::steps_are_whole;
 use ignore_dir::{Ground, Outside, Settings};
@@ -43,6 +27,8 @@ pub struct Guide {
     pub(crate) outside: Outside,
     pub(crate) levels: Levels,
     pub(crate) places: Places,
+    /// The places are a forest over the levels.
+    pub ghost forest: { ∥ IsForest (slots_of levels) places ∥₁ },
 }
 
 /// A directory that was entered, and what is wrong with its files of rules.
@@ -54,23 +40,23 @@ pub struct Arrived {
     pub error: Option<Error>,
 }
 
-/// What is below which directories: what stands for those around it, and the place of the one that
-/// it is in, unless it is a root.
-#[derive(Clone, Copy)]
-struct Around {
-    level: Option<ignore_levels::Place>,
-    parent: Option<Place>,
-}
-
-/// What stays when a directory is left: nothing of what is above a root.
-fn kept_of(around: Around) -> Option<ignore_levels::Place> {
-    match around.parent {
-        Some(_) => around.level,
-        None => None,
-    }
-}
-
 impl Guide {
+    ghost use Rattle.std.specs.Prelude.{◌≡◌, ◌≢◌, ◌++◌, ◌∷◌, [], ◌+◌, ℕ, IfOk, IfErr, List, None, OnErr, OnOk, option_map};
+    ghost use Rattle.ignore_base.specs.Paths.{join_of};
+    ghost use Rattle.ignore_base.specs.Problem.{problem_of};
+    ghost use Rattle.ignore_base.specs.Text.{Path};
+    ghost use Rattle.ignore_dir.specs.Above.{paths_above, problems_of_loads};
+    ghost use Rattle.ignore_dir.specs.Load.{joined_some};
+    ghost use Rattle.ignore_dir.specs.LoadsBy.{LoadsBy, reads_of, stats_of};
+    ghost use Rattle.ignore_dir.specs.Lists.{Placed};
+    ghost use Rattle.ignore_dir.specs.Scene.{scene};
+    ghost use Rattle.ignore_dir.specs.Steps.{Reached, entered, entry, reached_in};
+    ghost use Rattle.ignore_dir.specs.declared.dir.Dir.{Dir};
+    ghost use Rattle.ignore_guide.specs.Guide.{InGuide, IsRootBy, IsSameGuide, IsUnchanged, KeepsPlaces, StandsFor, holding, root_reached};
+    ghost use Rattle.ignore_guide.specs.Names.{IsAsked, IsLeft, IsNotLeft, IsRefused};
+    ghost use Rattle.ignore_guide.specs.Places.{IsGone, IsIn, IsSamePlaces, KeepsOthers, entered_at};
+    ghost use Rattle.ignore_guide.specs.declared.error.GuideError.TheVariants.{Memory};
+
     /// A guide by these settings and these rules from outside, without places. It allocates nothing.
     pub fn new(alloc: Global, settings: Settings, outside: Outside) -> Guide
         ensures settings { result.settings ≡ settings }
@@ -84,36 +70,6 @@ impl Guide {
             levels: Levels::new(alloc),
             places: Places::new(alloc),
         }
-    }
-
-    /// Gives a directory that was loaded a place.
-    fn settle(&mut self, around: Around, opened: Opened) -> Result<Arrived, AllocError>
-        ensures stands { (at : Reached) → IsChain (slots_of self.old.levels) around.level (counting at.chain)
-            → IsBelow (length opened.text) (counting at.chain)
-            → All (λ p. IsAfterSlash opened.text p.1) (counting at.chain) → IsAfterSlash opened.text (length opened.text)
-            → IfOk result (λ r. StandsFor self.new r.place opened.depth
-            (record { chain = (opened.dir, length opened.text) ∷ at.chain; text = opened.text; path = opened.path })) }
-        ensures new { IfOk result (λ r. entered_at self.old.places r.place ≡ None) }
-        ensures error { IfOk result (λ r. r.error ≡ opened.error) }
-        ensures kept { KeepsPlaces self.old self.new }
-        ensures gone { (place : Place) → IsGone self.old.places place → IsGone self.new.places place }
-        ensures same { IsSameGuide self.old self.new }
-    {
-        let offset = opened.text.as_str().len();
-        let level = self.levels.add(opened.dir, around.level, offset)?;
-        let entered = Entered {
-            path: opened.path,
-            text: opened.text,
-            depth: opened.depth,
-            level,
-            around: kept_of(around),
-            parent: around.parent,
-        };
-        let place = self.places.add(entered)?;
-        Ok(Arrived {
-            place,
-            error: opened.error,
-        })
     }
 
     /// Begins a root: loads what is above it and the root itself, and gives it a place. A guide may
@@ -130,6 +86,9 @@ impl Guide {
         ensures problem { InGuide F.Files files.now self.old (λ tree loads. IfOk result (λ r. option_map problem_of r.error
             ≡ joined_some (problems_of_loads loads (paths_above tree self.old.settings root.now) ++ (loads root.now).1 ∷ []))) }
         ensures new { IfOk result (λ r. entered_at self.old.places r.place ≡ None) }
+        ensures top { IfOk result (λ r. (parent : Place) → IsIn self.new.places parent r.place → ⊥) }
+        ensures stay { IfOk result (λ r. KeepsOthers r.place self.old.places self.new.places) }
+        ensures as_before { OnErr result (IsSamePlaces self.old.places self.new.places) }
         ensures kept { KeepsPlaces self.old self.new }
         ensures gone { (place : Place) → IsGone self.old.places place → IsGone self.new.places place }
         ensures same { IsSameGuide self.old self.new }
@@ -143,12 +102,12 @@ impl Guide {
             outside: &self.outside,
         };
         let rooted = open_root(&ground, root)?;
-        let level = self.levels.add_all(rooted.above)?;
+        let level = above(&mut self.levels, rooted.above)?;
         let around = Around {
             level,
             parent: None,
         };
-        let arrived = self.settle(around, rooted.opened)?;
+        let arrived = settle(&mut self.levels, &mut self.places, around, rooted.opened)?;
         Ok(arrived)
     }
 
@@ -170,6 +129,9 @@ impl Guide {
         ensures problem { (depth : ℕ) (at : Reached) → StandsFor self.old parent depth at → InGuide F.Files files.now self.old (λ tree loads.
             IfOk result (λ r. option_map problem_of r.error ≡ (loads (join_of at.path name.now)).1)) }
         ensures new { IfOk result (λ r. entered_at self.old.places r.place ≡ None) }
+        ensures within { IfOk result (λ r. IsIn self.new.places parent r.place) }
+        ensures stay { IfOk result (λ r. KeepsOthers r.place self.old.places self.new.places) }
+        ensures as_before { OnErr result (IsSamePlaces self.old.places self.new.places) }
         ensures kept { KeepsPlaces self.old self.new }
         ensures gone { (place : Place) → IsGone self.old.places place → IsGone self.new.places place }
         ensures same { IsSameGuide self.old self.new }
@@ -194,8 +156,7 @@ impl Guide {
             parent: Some(parent),
         };
         let opened = open(&ground, dir, name)?;
-        let arrived = self.settle(around, opened)?;
-        self.places.count(parent);
+        let arrived = settle(&mut self.levels, &mut self.places, around, opened)?;
         Ok(arrived)
     }
 
@@ -207,8 +168,9 @@ impl Guide {
     pub fn leave(&mut self, place: Place) -> Result<(), GuideError>
         ensures there { OnOk result (IsLeft self.old.places place) }
         ensures gone { OnOk result (IsGone self.new.places place) }
-        ensures kept { (other : Place) (depth : ℕ) (at : Reached) → other ≢ place → AreApart self.old place other
-            → StandsFor self.old other depth at → StandsFor self.new other depth at }
+        ensures kept { (other : Place) (depth : ℕ) (at : Reached) → other ≢ place → StandsFor self.old other depth at
+            → StandsFor self.new other depth at }
+        ensures stay { KeepsOthers place self.old.places self.new.places }
         ensures others { (other : Place) → IsGone self.old.places other → IsGone self.new.places other }
         ensures same { IsSameGuide self.old self.new }
         ensures unchanged { OnErr result (self.new ≡ self.old) }
@@ -220,9 +182,9 @@ impl Guide {
         if self.places.has_children(place) {
             return Err(GuideError::HasChildren);
         }
-        let (level, around, parent) = (dir.level, dir.around, dir.parent);
+        let (level, around) = (dir.level, dir.around);
         free_down(&mut self.levels, level, around);
-        self.places.leave(place, parent);
+        self.places.leave(place);
         Ok(())
     }
 }

@@ -1,10 +1,10 @@
 //! A guide whose host is asked for what it needs, one path at a time.
-ghost use Rattle.std.specs.Prelude.{◌≡◌, IfErr, IfOk, List, OnOk, Some, string_bytes, ℕ};
-ghost use Rattle.std.specs.BTreeMap.{get_by_text};
+ghost use Rattle.std.specs.Prelude.{◌≡◌, IfErr, IfOk, List, OnErr, OnOk, Some, ℕ};
+ghost use Rattle.ignore_guide.specs.Answers.{answer_at};
 ghost use Rattle.ignore_guide.specs.Guide.{IsSameGuide, IsUnchanged, KeepsPlaces};
-ghost use Rattle.ignore_guide.specs.Hosted.{CallRefused, Comes, IsToldOf, StepGives, kind_answer, path_answer, read_answer, told_more};
+ghost use Rattle.ignore_guide.specs.Hosted.{CallRefused, Comes, IsNewPlace, IsToldOf, StepGives, StepPlaces, kind_answer, path_answer, read_answer, told_more};
 ghost use Rattle.ignore_guide.specs.Names.{IsAsked, IsRefused};
-ghost use Rattle.ignore_guide.specs.Places.{IsGone};
+ghost use Rattle.ignore_guide.specs.Places.{IsGone, IsSamePlaces};
 ghost use Rattle.ignore_guide.specs.Told.{IsAlmostFresh, IsFresh};
 ghost use Rattle.ignore_guide.specs.declared.error.GuideError.TheVariants.{Memory};
 ghost use Rattle.ignore_guide.specs.declared.hosted.Call.TheVariants as calls;
@@ -99,6 +99,8 @@ impl Guide {
     /// Loads the directory of a call, by what was told.
     fn come(&mut self, call: &Call, told: &Told) -> Result<Arrived, GuideError>
         ensures comes { IfOk result (λ r. Comes ⟦<Told as Files>⟧ told.now call.now self.old r self.new) }
+        ensures placed { IfOk result (λ r. IsNewPlace call.now self.old.places r.place self.new.places) }
+        ensures as_before { OnErr result (IsSamePlaces self.old.places self.new.places) }
         ensures refused { IfErr result (λ e. CallRefused self.old.places call.now e) }
         ensures unchanged { IfErr result (λ e. IsUnchanged e self.old self.new) }
         ensures kept { KeepsPlaces self.old self.new }
@@ -121,6 +123,8 @@ impl Guide {
         is_all: bool,
     ) -> Result<Step, GuideError>
         ensures gives { IfOk result (λ step. StepGives ⟦<Told as Files>⟧ call told self.old step self.new) }
+        ensures placed { IfOk result (λ step. StepPlaces call self.old.places step self.new.places) }
+        ensures as_before { OnErr result (IsSamePlaces self.old.places self.new.places) }
         ensures refused { IfErr result (λ e. CallRefused self.old.places call e) }
         ensures unchanged { IfErr result (λ e. IsUnchanged e self.old self.new) }
         ensures kept { KeepsPlaces self.old self.new }
@@ -162,6 +166,8 @@ impl Guide {
     pub fn ask_root(&mut self, root: &str) -> Result<Step, GuideError>
         ensures gives { IfOk result (λ step. (told : Told) × IsFresh told
             × StepGives ⟦<Told as Files>⟧ (calls.Root root.now) told self.old step self.new) }
+        ensures placed { IfOk result (λ step. StepPlaces (calls.Root root.now) self.old.places step self.new.places) }
+        ensures as_before { OnErr result (IsSamePlaces self.old.places self.new.places) }
         ensures out_of_memory { IfErr result (λ e. e ≡ Memory) }
         ensures kept { KeepsPlaces self.old self.new }
         ensures gone { (place : Place) → IsGone self.old.places place → IsGone self.new.places place }
@@ -185,6 +191,8 @@ impl Guide {
     ) -> Result<Step, GuideError>
         ensures gives { IfOk result (λ step. (told : Told) × IsAlmostFresh told
             × StepGives ⟦<Told as Files>⟧ (calls.Enter parent name.now) told self.old step self.new) }
+        ensures placed { IfOk result (λ step. StepPlaces (calls.Enter parent name.now) self.old.places step self.new.places) }
+        ensures as_before { OnErr result (IsSamePlaces self.old.places self.new.places) }
         ensures kept { KeepsPlaces self.old self.new }
         ensures gone { (place : Place) → IsGone self.old.places place → IsGone self.new.places place }
         ensures same { IsSameGuide self.old self.new }
@@ -217,6 +225,8 @@ impl Guide {
     pub fn tell(&mut self, waiting: Waiting, given: &Given<'_>) -> Result<Step, GuideError>
         ensures gives { IfOk result (λ step. (told : Told) × IsToldOf waiting.question given.now waiting.told told
             × StepGives ⟦<Told as Files>⟧ waiting.call told self.old step self.new) }
+        ensures placed { IfOk result (λ step. StepPlaces waiting.call self.old.places step self.new.places) }
+        ensures as_before { OnErr result (IsSamePlaces self.old.places self.new.places) }
         ensures refused { IfErr result (λ e. CallRefused self.old.places waiting.call e) }
         ensures unchanged { IfErr result (λ e. IsUnchanged e self.old self.new) }
         ensures kept { KeepsPlaces self.old self.new }
@@ -224,7 +234,7 @@ impl Guide {
         ensures same { IsSameGuide self.old self.new }
     {
         let mut told = waiting.told;
-        take_down(self.alloc, &mut told, &waiting.question, given)?;
+        take_down(self.alloc, &mut told, waiting.question, given)?;
         self.go(waiting.call, told, waiting.rest, waiting.is_all)
     }
 
@@ -285,46 +295,46 @@ fn path_answer(alloc: Global, path: Result<&str, Fault>) -> Result<Result<Name, 
 }
 
 /// A copy of a path.
-fn copy_of(alloc: Global, path: &Name) -> Result<String, AllocError>
-    ensures { IfOk result (λ copy. string_bytes copy ≡ path.now) }
+fn copy_of(alloc: Global, path: &Name) -> Result<Name, AllocError>
+    ensures { IfOk result (λ copy. copy ≡ path.now) }
 {
-    Ok(String::from_str(alloc, path.as_str())?)
+    Name::from_str(alloc, path.as_str())
 }
 
 /// Takes down what a host tells of what a path leads to, and of the file there.
 fn take_file(
     alloc: Global,
     told: &mut Told,
-    path: &Name,
+    path: Name,
     given: &Given<'_>,
 ) -> Result<(), AllocError>
-    ensures kinds { OnOk result ((text : List ℕ) → get_by_text told.new.kinds text
-        ≡ told_more path.now (Some (kind_answer given.now.kind)) (get_by_text told.old.kinds) text) }
-    ensures reads { OnOk result ((text : List ℕ) → get_by_text told.new.reads text
-        ≡ told_more path.now (Some (read_answer given.now.bytes given.now.fault)) (get_by_text told.old.reads) text) }
+    ensures kinds { OnOk result ((text : List ℕ) → answer_at told.new.kinds.list.items text
+        ≡ told_more path (Some (kind_answer given.now.kind)) (answer_at told.old.kinds.list.items) text) }
+    ensures reads { OnOk result ((text : List ℕ) → answer_at told.new.reads.list.items text
+        ≡ told_more path (Some (read_answer given.now.bytes given.now.fault)) (answer_at told.old.reads.list.items) text) }
     ensures paths { told.new.paths ≡ told.old.paths }
     ensures lacked { told.new.lacked ≡ told.old.lacked }
 {
     let read = read_answer(alloc, given.bytes, given.fault)?;
-    told.add_read(copy_of(alloc, path)?, read)?;
-    told.add_kind(copy_of(alloc, path)?, kind_answer(given.kind))
+    told.add_read(copy_of(alloc, &path)?, read)?;
+    told.add_kind(path, kind_answer(given.kind))
 }
 
 /// Takes down what a host tells of a path. For dependents.
 pub fn take_down(
     alloc: Global,
     told: &mut Told,
-    question: &Question,
+    question: Question,
     given: &Given<'_>,
 ) -> Result<(), AllocError>
-    ensures { OnOk result (IsToldOf question.now given.now told.old told.new) }
+    ensures { OnOk result (IsToldOf question given.now told.old told.new) }
 {
     match question.wanted {
-        Wanted::Kind => { told.add_kind(copy_of(alloc, &question.path)?, kind_answer(given.kind)) }
-        Wanted::File => take_file(alloc, told, &question.path, given),
+        Wanted::Kind => told.add_kind(question.path, kind_answer(given.kind)),
+        Wanted::File => take_file(alloc, told, question.path, given),
         Wanted::Canonical => {
             let answer = path_answer(alloc, given.path)?;
-            told.add_path(copy_of(alloc, &question.path)?, answer)
+            told.add_path(question.path, answer)
         }
     }
 }

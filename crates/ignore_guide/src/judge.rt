@@ -4,7 +4,8 @@ ghost use Rattle.ignore_base.specs.Paths.{join_of};
 ghost use Rattle.ignore_dir.specs.Limits.{size_limit};
 ghost use Rattle.ignore_dir.specs.Steps.{Reached, entry, verdict_at};
 ghost use Rattle.ignore_base.specs.Text.{Bytes};
-ghost use Rattle.ignore_guide.specs.Guide.{AreTexts, Stands, StandsFor, cause_at, decided, decided_listed, is_over, why_at, within};
+ghost use Rattle.ignore_guide.specs.Forest.{Stands};
+ghost use Rattle.ignore_guide.specs.Guide.{AreTexts, StandsFor, cause_at, decided, decided_listed, is_over, why_at, within};
 ghost use Rattle.ignore_guide.specs.Names.{IsAsked, IsNoPlace, IsRefused, is_name};
 ghost use Rattle.ignore_guide.specs.Places.{entered_at};
 ghost use Rattle.ignore_base.specs.Match.{match_map};
@@ -77,12 +78,24 @@ impl Texts {
     }
 }
 
-/// Makes a text another with a name after it.
+/// Makes a text begin with another, unless it does.
+fn begin_with(text: &mut String, around: &str) -> Result<(), AllocError>
+    ensures { OnOk result ((rest : Bytes) × (string_bytes text.new ≡ around.now ++ rest)) }
+{
+    if text.starts_with(around) {
+        return Ok(());
+    }
+    text.clear();
+    text.push_str(around)?;
+    Ok(())
+}
+
+/// Makes a text another with a name after it. What the text begins with is kept, if it is that.
 fn put_after(text: &mut String, around: &str, name: &str) -> Result<(), AllocError>
     ensures { OnOk result (string_bytes text.new ≡ around.now ++ name.now) }
 {
-    text.clear();
-    text.push_str(around)?;
+    begin_with(text, around)?;
+    text.truncate(around.len());
     text.push_str(name)?;
     Ok(())
 }

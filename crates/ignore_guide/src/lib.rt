@@ -2,9 +2,11 @@
 //! on the entries of each.
 #![tactic(auto)]
 
+mod answers;
 mod error;
 mod explain;
 mod free;
+mod given_laws;
 mod guide;
 mod hosted;
 pub mod internal;
@@ -13,9 +15,11 @@ pub mod laws;
 mod missing;
 mod open;
 mod places;
+mod settle;
 mod survey;
 mod told;
 
+pub use answers::{Answer, Answers};
 pub use error::GuideError;
 pub use guide::{Arrived, Guide};
 pub use hosted::{Call, Given, Step, Waiting};

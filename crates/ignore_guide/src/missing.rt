@@ -50,7 +50,7 @@ struct Search<'t> {
 }
 
 /// Whether one of some questions is of a path.
-pub(crate) fn is_asked(questions: &[Question], path: &str) -> bool {
+fn is_asked(questions: &[Question], path: &str) -> bool {
     for question in questions {
         if question.path.as_str() == path {
             return true;
@@ -284,7 +284,7 @@ fn of_file(alloc: Global, path: &str) -> Result<Question, AllocError>
 fn first_unread<'p>(told: &Told, paths: &'p [Name]) -> Option<&'p Name>
     ensures { option_copied result ≡ first_unread told.now paths.now }
 {
-    paths.iter().find(|path| !is_read(told, path.as_str()))
+    told.reads.first_without(paths)
 }
 
 /// What is still to be asked next before the files of rules at some paths can be read: the first that

@@ -2,10 +2,8 @@
 //!
 //! A place is a number in a list, and a serial: how many places were handed out when it was. The
 //! number is free for another directory once the place is left; the serial isn't handed out again.
-ghost use Rattle.std.specs.Prelude.{◌≡◌, ◌<◌, None, Some, IfOk, IsSome, OnErr, OnOk, length};
-ghost use Rattle.std.specs.Option.{option_copied};
-ghost use Rattle.ignore_guide.specs.Places.{IsGone, IsPut, IsVacant, KeepsAll, KeepsBut, entered_at, has_children_at, is_free, next_of};
-ghost use Rattle.ignore_guide.specs.declared.places.Place.{Place};
+ghost use Rattle.std.specs.Prelude.{◌≡◌, ◌<◌, ℕ, OnErr, OnOk, length, slice_get};
+ghost use Rattle.ignore_guide.specs.Spots.{IsCounted, IsPut, IsVacant, counted_at, is_free, next_of};
 
 use ignore_files::Name;
 use std::alloc::{AllocError, Global};
@@ -63,6 +61,8 @@ pub struct Places {
     spots: Vec<Spot>,
     free: Option<usize>,
     serial: u64,
+    /// Of each directory it is counted how many others are in it.
+    pub ghost counted: { ∥ IsCounted spots.items serial ∥₁ },
 }
 
 fn next_of(held: &Held) -> Option<usize>
@@ -83,7 +83,48 @@ fn is_free(held: &Held) -> bool
     }
 }
 
+/// Puts a directory where none is, and returns the number of the next free place.
+fn put(spots: &mut Vec<Spot>, index: usize, spot: Spot) -> Result<Option<usize>, AllocError>
+    ensures put { IsVacant spots.old.items index → OnOk result (IsPut spots.old.items index spot spots.new.items) }
+    ensures unchanged { OnErr result (spots.new.items ≡ spots.old.items) }
+{
+    if index < spots.as_slice().len() {
+        let next = next_of(&spots[index].held);
+        spots[index] = spot;
+        return Ok(next);
+    }
+    spots.push(spot)?;
+    Ok(None)
+}
+
+/// Replaces what is at a number of the list.
+fn replace(spots: &mut Vec<Spot>, index: usize, spot: Spot)
+    requires { index < length spots.old.items }
+    ensures put { IsPut spots.old.items index spot spots.new.items }
+{
+    spots[index] = spot;
+}
+
+/// Counts so many directories in the one at a place.
+fn count(spots: &mut Vec<Spot>, parent: Option<Place>, children: usize)
+    ensures counted { (index : ℕ) → slice_get spots.new.items index
+        ≡ counted_at parent children index (slice_get spots.old.items index) }
+{
+    let Some(place) = parent else {
+        return;
+    };
+    if place.index < spots.as_slice().len() {
+        if spots[place.index].serial == place.serial {
+            spots[place.index].children = children;
+        }
+    }
+}
+
 impl Places {
+    ghost use Rattle.std.specs.Prelude.{◌+◌, ◌-◌, None, Some, IfOk, IsSome, false, true};
+    ghost use Rattle.std.specs.Option.{option_copied};
+    ghost use Rattle.ignore_guide.specs.Places.{IsGone, IsIn, IsSamePlaces, KeepsOthers, entered_at};
+
     /// No places. It allocates nothing.
     pub fn new(alloc: Global) -> Places
         ensures empty { (place : Place) → entered_at result place ≡ None }
@@ -112,13 +153,46 @@ impl Places {
         }
     }
 
-    /// Whether directories in the one at a place were entered, and not left.
-    pub(crate) fn has_children(&self, place: Place) -> bool
-        ensures { result ≡ has_children_at self.now place }
+    /// How many directories in the one at a place were entered, and not left.
+    fn children(&self, place: Place) -> usize
+        ensures { (spot : Spot) → slice_get self.now.spots.items place.index ≡ Some spot → result ≡ spot.children }
     {
         match self.spots.as_slice().get(place.index) {
-            Some(spot) => spot.children != 0,
-            None => false,
+            Some(spot) => spot.children,
+            None => 0,
+        }
+    }
+
+    /// Whether directories in the one at a place were entered, and not left.
+    pub(crate) fn has_children(&self, place: Place) -> bool
+        ensures some { result ≡ true → IsSome (entered_at self.now place) → (child : Place) × IsIn self.now place child }
+        ensures none { result ≡ false → IsSome (entered_at self.now place) → (child : Place) → IsIn self.now place child → ⊥ }
+    {
+        self.children(place) != 0
+    }
+
+    /// How many there are in that of a directory, once it is entered.
+    fn one_more(&self, parent: Option<Place>) -> Result<usize, AllocError>
+        ensures { (place : Place) (spot : Spot) → parent ≡ Some place → slice_get self.now.spots.items place.index ≡ Some spot
+            → IfOk result (λ children. children ≡ spot.children + 1) }
+    {
+        let Some(place) = parent else {
+            return Ok(0);
+        };
+        match self.children(place).checked_add(1) {
+            Some(children) => Ok(children),
+            None => Err(AllocError),
+        }
+    }
+
+    /// How many there are in that of a directory, once it is left.
+    fn one_less(&self, parent: Option<Place>) -> usize
+        ensures { (place : Place) (spot : Spot) → parent ≡ Some place → slice_get self.now.spots.items place.index ≡ Some spot
+            → result ≡ spot.children - 1 }
+    {
+        match parent {
+            Some(place) => self.children(place).saturating_sub(1),
+            None => 0,
         }
     }
 
@@ -136,43 +210,24 @@ impl Places {
         self.spots.as_slice().len()
     }
 
-    /// Puts a directory where none is.
-    fn put(&mut self, index: usize, spot: Spot) -> Result<(), AllocError>
-        ensures put { IsVacant self.old.spots.items index → OnOk result (IsPut self.old.spots.items index spot self.new.spots.items) }
-        ensures unchanged { OnErr result (self.new.spots.items ≡ self.old.spots.items) }
-        ensures serial { self.new.serial ≡ self.old.serial }
-    {
-        if index < self.spots.as_slice().len() {
-            self.free = next_of(&self.spots[index].held);
-            self.spots[index] = spot;
-            return Ok(());
-        }
-        self.spots.push(spot)?;
-        Ok(())
-    }
-
-    /// Replaces what is at a number of the list.
-    fn replace(&mut self, index: usize, spot: Spot)
-        requires { index < length self.old.spots.items }
-        ensures put { IsPut self.old.spots.items index spot self.new.spots.items }
-        ensures serial { self.new.serial ≡ self.old.serial }
-    {
-        self.spots[index] = spot;
-    }
-
-    /// Adds a directory, and returns its place.
+    /// Adds a directory, which is in one that was entered, unless it is a root, and returns its
+    /// place.
     ///
     /// # Errors
     /// Out of memory, and then no place changes.
     pub(crate) fn add(&mut self, entered: Entered) -> Result<Place, AllocError>
+        requires inside { (parent : Place) → entered.parent ≡ Some parent → IsSome (entered_at self.old parent) }
         ensures added { IfOk result (λ place. entered_at self.new place ≡ Some entered) }
         ensures new { IfOk result (λ place. entered_at self.old place ≡ None) }
-        ensures kept { KeepsAll self.old self.new }
+        ensures others { IfOk result (λ place. KeepsOthers place self.old self.new) }
+        ensures unchanged { OnErr result (IsSamePlaces self.old self.new) }
         ensures gone { (place : Place) → IsGone self.old place → IsGone self.new place }
     {
         let Some(serial) = self.serial.checked_add(1) else {
             return Err(AllocError);
         };
+        let parent = entered.parent;
+        let children = self.one_more(parent)?;
         let index = self.vacant();
         let held = Held::Entered(entered);
         let spot = Spot {
@@ -180,61 +235,33 @@ impl Places {
             children: 0,
             held,
         };
-        self.put(index, spot)?;
+        let free = put(&mut self.spots, index, spot)?;
+        count(&mut self.spots, parent, children);
+        self.free = free;
         self.serial = serial;
         Ok(Place { index, serial })
     }
 
     /// Drops the directory at a place.
-    fn remove(&mut self, place: Place)
+    pub(crate) fn leave(&mut self, place: Place)
         ensures gone { IsSome (entered_at self.old place) → IsGone self.new place }
-        ensures kept { KeepsBut place self.old self.new }
-        ensures others { (other : Place) → IsGone self.old other → IsGone self.new other }
+        ensures others { KeepsOthers place self.old self.new }
+        ensures still { (other : Place) → IsGone self.old other → IsGone self.new other }
     {
-        if self.get(place).is_none() {
+        let Some(dir) = self.get(place) else {
             return;
-        }
+        };
+        let parent = dir.parent;
+        let around = self.one_less(parent);
+        let children = self.children(place);
         let held = Held::Free(self.free);
         let spot = Spot {
             serial: place.serial,
-            children: 0,
+            children,
             held,
         };
-        self.replace(place.index, spot);
+        replace(&mut self.spots, place.index, spot);
+        count(&mut self.spots, parent, around);
         self.free = Some(place.index);
-    }
-
-    /// Counts one more directory that was entered in the one at a place.
-    pub(crate) fn count(&mut self, place: Place)
-        ensures same { (other : Place) → entered_at self.new other ≡ entered_at self.old other }
-        ensures serial { self.new.serial ≡ self.old.serial }
-    {
-        if place.index < self.spots.as_slice().len() {
-            let children = self.spots[place.index].children;
-            self.spots[place.index].children = children.saturating_add(1);
-        }
-    }
-
-    /// Counts one less.
-    fn uncount(&mut self, place: Place)
-        ensures same { (other : Place) → entered_at self.new other ≡ entered_at self.old other }
-        ensures serial { self.new.serial ≡ self.old.serial }
-    {
-        if place.index < self.spots.as_slice().len() {
-            let children = self.spots[place.index].children;
-            self.spots[place.index].children = children.saturating_sub(1);
-        }
-    }
-
-    /// Drops the directory at a place, which is in another, unless it is a root.
-    pub(crate) fn leave(&mut self, place: Place, parent: Option<Place>)
-        ensures gone { IsSome (entered_at self.old place) → IsGone self.new place }
-        ensures kept { KeepsBut place self.old self.new }
-        ensures others { (other : Place) → IsGone self.old other → IsGone self.new other }
-    {
-        self.remove(place);
-        if let Some(parent) = parent {
-            self.uncount(parent);
-        }
     }
 }

@@ -1,6 +1,5 @@
 //! What the names that a directory lists say of the files that decide there.
-use crate::missing::{Question, Wanted, is_asked};
-use crate::told::is_among;
+use crate::missing::{Question, Wanted};
 use ignore_base::internal::join;
 use ignore_base::text::{has_slash, is_proper};
 use ignore_dir::Settings;
@@ -73,7 +72,7 @@ impl Survey {
     }
 
     /// Takes down whether the file of a name is lacked, and returns that. Else it is asked for, where
-    /// it is to be read.
+    /// it is to be read: one that is asked for twice is told by then, and not asked again.
     fn take(
         &mut self,
         alloc: Global,
@@ -86,17 +85,12 @@ impl Survey {
             self.lacked.push(path)?;
             return Ok(true);
         }
-        if is_read && !self.has(path.as_str()) {
+        if is_read {
             self.questions.push(Question {
                 wanted: Wanted::File,
                 path: Name::new(path),
             })?;
         }
         Ok(false)
-    }
-
-    /// Whether a path was taken down: whether it is lacked, or asked for.
-    fn has(&self, path: &str) -> bool {
-        is_among(self.lacked.as_slice(), path) || is_asked(self.questions.as_slice(), path)
     }
 }

@@ -1,27 +1,27 @@
 //! What a host told: files whose answers are those that it gave.
 ghost use Rattle.std.specs.Prelude.{◌≡◌, IfOk, List, None, OnOk, Some, drop, false, is_some, length, map, string_bytes, ℕ, if◌then◌else◌};
-ghost use Rattle.std.specs.BTreeMap.{get_by_text};
 ghost use Rattle.std.specs.List.{list_any};
 ghost use Rattle.std.specs.Option.{option_copied};
 ghost use Rattle.std.specs.Str.{bytes_eq};
 ghost use Rattle.ignore_base.specs.Paths.{at_bound, strip_prefix_of};
+ghost use Rattle.ignore_guide.specs.Answers.{answer_at};
 ghost use Rattle.ignore_guide.specs.Told.{IsAlmostFresh, IsFresh, is_absent};
 
+use crate::answers::Answers;
 use ignore_base::Fault;
 use ignore_base::text::strip_prefix;
 use ignore_files::{Bytes, Contents, Files, Identity, Listing, Metadata, Name, Refusal};
 use std::alloc::{AllocError, Global};
-use std::collections::BTreeMap;
 
 /// What a host told, by paths. Of a path the last that it told counts.
 #[derive(Drop)]
 pub struct Told {
     /// What paths lead to, links followed.
-    pub kinds: BTreeMap<String, Result<Metadata, Fault>>,
+    pub kinds: Answers<Result<Metadata, Fault>>,
     /// What can be read of the files there, or why they can't be opened.
-    pub reads: BTreeMap<String, Result<Contents, Fault>>,
+    pub reads: Answers<Result<Contents, Fault>>,
     /// Their canonical paths.
-    pub paths: BTreeMap<String, Result<Name, Fault>>,
+    pub paths: Answers<Result<Name, Fault>>,
     /// Paths at which nothing is, nor below them.
     pub lacked: Vec<String>,
 }
@@ -54,7 +54,7 @@ fn is_absent(lacked: &str, path: &str) -> bool
 }
 
 /// Whether nothing is at a path, since it is one of these, or below one.
-pub(crate) fn is_among(lacked: &[String], path: &str) -> bool
+fn is_among(lacked: &[String], path: &str) -> bool
     ensures { result ≡ list_any (λ l. is_absent (string_bytes l) path.now) lacked.now }
 {
     lacked.iter().any(|other| is_absent(other.as_str(), path))
@@ -66,9 +66,9 @@ impl Told {
         ensures { IsFresh result }
     {
         Told {
-            kinds: BTreeMap::new(alloc),
-            reads: BTreeMap::new(alloc),
-            paths: BTreeMap::new(alloc),
+            kinds: Answers::new(alloc),
+            reads: Answers::new(alloc),
+            paths: Answers::new(alloc),
             lacked: Vec::new(alloc),
         }
     }
@@ -79,9 +79,9 @@ impl Told {
         ensures lacked { result.lacked ≡ lacked }
     {
         Told {
-            kinds: BTreeMap::new(alloc),
-            reads: BTreeMap::new(alloc),
-            paths: BTreeMap::new(alloc),
+            kinds: Answers::new(alloc),
+            reads: Answers::new(alloc),
+            paths: Answers::new(alloc),
             lacked,
         }
     }
@@ -96,49 +96,46 @@ impl Told {
     /// Takes down what a path leads to.
     pub(crate) fn add_kind(
         &mut self,
-        path: String,
+        path: Name,
         answer: Result<Metadata, Fault>,
     ) -> Result<(), AllocError>
-        ensures kinds { OnOk result ((text : List ℕ) → get_by_text self.new.kinds text
-            ≡ (if bytes_eq (string_bytes path) text then Some answer else get_by_text self.old.kinds text)) }
+        ensures kinds { OnOk result ((text : List ℕ) → answer_at self.new.kinds.list.items text
+            ≡ (if bytes_eq path text then Some answer else answer_at self.old.kinds.list.items text)) }
         ensures reads { self.new.reads ≡ self.old.reads }
         ensures paths { self.new.paths ≡ self.old.paths }
         ensures lacked { self.new.lacked ≡ self.old.lacked }
     {
-        self.kinds.insert(path, answer)?;
-        Ok(())
+        self.kinds.add(path, answer)
     }
 
     /// Takes down what can be read at a path.
     pub(crate) fn add_read(
         &mut self,
-        path: String,
+        path: Name,
         answer: Result<Contents, Fault>,
     ) -> Result<(), AllocError>
-        ensures reads { OnOk result ((text : List ℕ) → get_by_text self.new.reads text
-            ≡ (if bytes_eq (string_bytes path) text then Some answer else get_by_text self.old.reads text)) }
+        ensures reads { OnOk result ((text : List ℕ) → answer_at self.new.reads.list.items text
+            ≡ (if bytes_eq path text then Some answer else answer_at self.old.reads.list.items text)) }
         ensures kinds { self.new.kinds ≡ self.old.kinds }
         ensures paths { self.new.paths ≡ self.old.paths }
         ensures lacked { self.new.lacked ≡ self.old.lacked }
     {
-        self.reads.insert(path, answer)?;
-        Ok(())
+        self.reads.add(path, answer)
     }
 
     /// Takes down the canonical path of a path.
     pub(crate) fn add_path(
         &mut self,
-        path: String,
+        path: Name,
         answer: Result<Name, Fault>,
     ) -> Result<(), AllocError>
-        ensures paths { OnOk result ((text : List ℕ) → get_by_text self.new.paths text
-            ≡ (if bytes_eq (string_bytes path) text then Some answer else get_by_text self.old.paths text)) }
+        ensures paths { OnOk result ((text : List ℕ) → answer_at self.new.paths.list.items text
+            ≡ (if bytes_eq path text then Some answer else answer_at self.old.paths.list.items text)) }
         ensures kinds { self.new.kinds ≡ self.old.kinds }
         ensures reads { self.new.reads ≡ self.old.reads }
         ensures lacked { self.new.lacked ≡ self.old.lacked }
     {
-        self.paths.insert(path, answer)?;
-        Ok(())
+        self.paths.add(path, answer)
     }
 }
 

@@ -1,5 +1,5 @@
 -- What a host gives, by the numbers of C.
-use Rattle.std.proofs.Common.{◌≡◌, ℕ, Option, Some, None, refl, sym}
+use Rattle.std.proofs.Common.{◌≡◌, ◌≢◌, ℕ, Option, Some, None, refl, sym}
 use Rattle.ignore_base.specs.Text.{Bytes}
 use Rattle.ignore_base.specs.declared.fault.Fault.{Fault}
 use Rattle.ignore_base.specs.declared.fault.Fault.TheVariants.{NotFound, PermissionDenied, NotADirectory, IsADirectory, InvalidData, BadName}
@@ -38,7 +38,8 @@ no_fault n a b c d e f g h i j k l m (Some NoMetadata) is = k (sym is)
 no_fault n a b c d e f g h i j k l m (Some Other) is = l (sym is)
 
 -- what is given has this kind, these bytes and this fault
-pub given_is : (wanted : Wanted) (kind : ℕ) (bytes : Bytes) (fault : ℕ) (why : Option Fault) (g : Given) → fault_number why ≡ fault
-    → kind_code g.kind ≡ kind → read_answer g.bytes g.fault ≡ read_given bytes why
-    → (wanted ≡ wanteds.Canonical → path_answer g.path ≡ path_given bytes why) → IsGiven wanted kind bytes fault g
-given_is wanted kind bytes fault why g n k r p = record { why = why; numbered = n; is_kind = k; read = r; path = p }
+pub given_is : (wanted : Wanted) (number : ℕ) (bytes : Bytes) (fault : ℕ) (why : Option Fault) (g : Given) → fault_number why ≡ fault
+    → kind_code g.kind ≡ number → g.kind ≢ Some kind.Symlink → read_answer g.bytes g.fault ≡ read_given bytes why
+    → (wanted ≡ wanteds.Canonical → path_answer g.path ≡ path_given bytes why) → IsGiven wanted number bytes fault g
+given_is wanted number bytes fault why g n k unlinked r p =
+    record { why = why; numbered = n; is_kind = k; no_link = unlinked; read = r; path = p }

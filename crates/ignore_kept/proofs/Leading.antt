@@ -8,9 +8,9 @@ use Rattle.ignore_base.specs.Problem.{Problem, io}
 use Rattle.ignore_base.specs.Text.{Bytes, Path}
 use Rattle.ignore_base.specs.declared.fault.Fault.TheVariants.{NoCurrentDir}
 use Rattle.ignore_guide.specs.Guide.{IsSameGuide, IsUnchanged, KeepsPlaces}
-use Rattle.ignore_guide.specs.Hosted.{CallRefused, StepGives}
+use Rattle.ignore_guide.specs.Hosted.{CallRefused, StepGives, StepPlaces}
 use Rattle.ignore_guide.specs.Names.{IsAsked, IsRefused, is_name}
-use Rattle.ignore_guide.specs.Places.{IsGone}
+use Rattle.ignore_guide.specs.Places.{IsGone, IsSamePlaces}
 use Rattle.ignore_guide.specs.Told.{IsAlmostFresh, ReadTold}
 use Rattle.ignore_guide.specs.contracts.told.ToldFiles.TheImpl.{ghosts}
 use Rattle.ignore_guide.specs.declared.error.GuideError.{GuideError}
@@ -75,10 +75,12 @@ none-waits None e = refl
 none-waits (Some w) e = absurd (cc (e))
 
 -- a call that ended left the guide alone changed
-pub ends_step : (b : Begun) (g : Guide) → KeepsPlaces b.guide g → ((place : Place) → IsGone b.guide.places place → IsGone g.places place)
-    → IsSameGuide b.guide g → is_waiting b ≡ false → Ends b (record b { guide = g })
-ends_step b g kept gone same idle = (
+pub ends_step : (b : Begun) (g : Guide) → IsSamePlaces b.guide.places g.places → KeepsPlaces b.guide g
+    → ((place : Place) → IsGone b.guide.places place → IsGone g.places place) → IsSameGuide b.guide g → is_waiting b ≡ false
+    → Ends b (record b { guide = g })
+ends_step b g as_before kept gone same idle = (
   g,
+  as_before,
   record { places = kept; gone = gone; same = same },
   ap (λ (w : Option Waiting). let x : Begun = record b { guide = g; waits = w } in x) (none-waits b.waits idle),
 )
@@ -89,11 +91,11 @@ settled-mid b h (step.Arrived r) = refl
 
 -- a step of the guide is one of the call
 pub stepped : (b : Begun) (asked : Call) (told : Told) (h : Guide) (s : Step) (after : Begun) (place : Option Place)
-    → StepGives ghosts asked told b.guide s h → KeepsPlaces b.guide h
+    → StepGives ghosts asked told b.guide s h → StepPlaces asked b.guide.places s h.places → KeepsPlaces b.guide h
     → ((p : Place) → IsGone b.guide.places p → IsGone h.places p) → IsSameGuide b.guide h
     → after ≡ settled (record b { guide = h }) h s → place ≡ place_in s → Steps b asked told place after
-stepped b asked told h s after place gives kept gone same is at =
-    (s, h, gives, record { places = kept; gone = gone; same = same }, is ∙ settled-mid b h s, at)
+stepped b asked told h s after place gives placed kept gone same is at =
+    (s, h, gives, placed, record { places = kept; gone = gone; same = same }, is ∙ settled-mid b h s, at)
 
 -- after an error of the guide nothing changed, unless memory ran out
 pub kept_by : (e : GuideError) (b : Begun) (h : Guide) → IsUnchanged e b.guide h → KeptBy e b (record b { guide = h })
@@ -118,6 +120,7 @@ enters_unlisted parent name names b NotUtf8 idle h = (refl, inr h)
 enters_unlisted parent name names b Misused idle h = (refl, inr (inl h))
 enters_unlisted parent name names b Full idle h = (
   b.guide,
+  λ place. refl,
   record { places = λ place depth at s. s; gone = λ place g. g; same = record { settings = refl; outside = refl } },
   ap (λ (w : Option Waiting). let x : Begun = record b { waits = w } in x) (none-waits b.waits idle),
 )

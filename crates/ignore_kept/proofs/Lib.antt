@@ -4,6 +4,7 @@ pub mod AsGit
 pub mod Asking
 pub mod Explaining
 pub mod Leading
+pub mod Cutting
 pub mod Decided
 pub mod Named
 pub mod Parting
@@ -16,4 +17,5 @@ pub mod Wishing
 pub mod WorkedRooms
 pub mod WorkedReasons
 pub mod WorkedGuides
+mod WorkedDead
 pub mod WorkedFindings

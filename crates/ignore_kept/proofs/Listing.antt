@@ -3,13 +3,9 @@ use Rattle.std.proofs.Common.{◌≡◌, ◌≢◌, ◌⊎◌, ◌∙◌, ◌+�
 use Rattle.std.proofs.lemmas.List.{length-map}
 use Rattle.std.proofs.lemmas.Option.{slice_get-map, slice_get_within}
 use Rattle.std.specs.List.{slice_get}
-use Rattle.std.specs.declared.cmp.Ordering.{Ordering}
-use Rattle.std.specs.declared.cmp.Ordering.TheVariants.{Equal}
-use denote.Bor.{Bor}
-use Rattle.ignore.specs.Closures.{Compares, Filters, order_of}
-use Rattle.ignore.specs.Headline.{IsAboveLimit, IsOnlyListIn, IsSceneOf}
+use Rattle.ignore.specs.Headline.{IsAboveLimit, IsBareScene, IsOnlyListIn, IsSceneOf}
 use Rattle.ignore.specs.ItsList.{InItsScenes}
-use Rattle.ignore.specs.WalkWords.{Entry, Item, Outside, Scene, Whole, item_of}
+use Rattle.ignore.specs.WalkWords.{Item, Outside, Scene, Whole, item_of}
 use Rattle.ignore.specs.FileWords.{Tree as Files}
 use Rattle.ignore.specs.declared.options.WalkOptions.{WalkOptions}
 use Rattle.ignore_base.specs.Errors.{problem_text}
@@ -25,11 +21,10 @@ use Rattle.ignore_files.specs.declared.env.Env.{Env}
 use Rattle.ignore_walk.specs.declared.callbacks.Callbacks.{Ghosts as Callbacks}
 use Rattle.ignore_walk.specs.declared.callbacks.Order.{Order}
 use Rattle.ignore_walk.specs.declared.entry.DirEntry.{DirEntry}
-use Rattle.ignore_walk.specs.declared.callbacks.Order.TheVariants.{Listed}
 use Rattle.ignore_kept.specs.Kinds.{setup_in, tree_in}
 use Rattle.ignore_kept.specs.Setups as setup
 use Rattle.ignore_kept.specs.Trees as tree
-use Rattle.ignore_kept.specs.Walking.{Builds, IsListOf, IsNext, IsPlain, Nexts, TellsNext, end_of, error_text, keeping, next_of}
+use Rattle.ignore_kept.specs.Walking.{Builds, IsListOf, IsNext, Nexts, TellsNext, end_of, error_text, keeping, next_of}
 use Rattle.ignore_kept.specs.declared.kept.Kept.{Kept}
 use Rattle.ignore_kept.specs.declared.setup.Setup.{Setup}
 use Rattle.ignore_kept.specs.declared.stopped.Stopped.{Stopped}
@@ -37,73 +32,37 @@ use Rattle.ignore_kept.specs.declared.stopped.Stopped.TheVariants.{NotUtf8, Memo
 use Rattle.ignore_kept.specs.declared.walked.WalkEntry.{WalkEntry}
 use Rattle.ignore_kept.specs.declared.walked.Walked.{Walked}
 
--- an owner without closures: each entry passes, and all names tie
-pub record IsBare {S : Type 0} (calls : Callbacks S) (owner : S) : Type 0 where
-  pub passes : (keep : Entry → Bool) → ((e : Entry) → keep e ≡ true) → calls.filters owner keep
-  pub ties : calls.compares owner (λ a b. Equal)
-
--- where no filter is set, each entry passes
-pub passes_all : {X : Type 0} (filter : Option X) (gives : X → Bor DirEntry → Bool → Type 0) (keep : Entry → Bool) → filter ≡ None
-    → ((e : Entry) → keep e ≡ true) → Filters filter gives keep
-passes_all {X} filter gives keep none all = subst (λ (f : Option X). Filters f gives keep) (sym none) all
-
--- and where no comparison is set, all names tie
-pub all_tie : {X : Type 0} (sorter : Option X) (gives : X → Bor Path → Bor Path → Ordering → Type 0) → sorter ≡ None
-    → Compares sorter gives (λ a b. Equal)
-all_tie {X} sorter gives none = subst (λ (s : Option X). Compares s gives (λ a b. Equal)) (sym none) (λ a b. refl)
-
--- and entries come as they are listed
-pub unordered : {X : Type 0} (order : X → Order) (sorter : Option X) → sorter ≡ None → order_of order sorter ≡ Listed
-unordered {X} order sorter none = ap (λ (s : Option X). order_of order s) none
-
--- a scene without a filter and an order is one by such an owner
-pub bare_scene : {S : Type 0} (calls : Callbacks S) (owner : S) (b : WalkOptions) (t : Files) (o : Outside) (g : Scene)
-    → IsBare calls owner → IsPlain b t o g → IsSceneOf calls owner b Listed t o g
-bare_scene calls owner b t o g bare p =
-    record {
-      tree = p.tree;
-      loads = p.loads;
-      settings = p.settings;
-      outside = p.outside;
-      device = p.device;
-      filter = bare.passes g.keep p.filter;
-      sorted = (λ a b. Equal, bare.ties, record { one_way = λ x y is. refl; chain = λ x y z a b. refl }, p.order);
-    }
-
 -- the list of the definition is there, by an owner
 abbrev IsThere : {S : Type 0} → Callbacks S → S → Memory → Env → WalkOptions → Order → List Item → Type 0
 IsThere calls owner tree env b order all =
     InItsScenes (IsSceneOf calls owner b order (tree_of tree)) env b (tree_of tree) (λ g. (n : ℕ) × (n ≤ b.limit) × Whole g b.roots all n)
 
--- the list by such an owner is the list of the definition
+-- the list of a walk that goes by its options alone is the list of the definition
 pub listed : {S : Type 0} (calls : Callbacks S) (owner : S) (tree : Memory) (env : Env) (taken b : WalkOptions) (order : Order)
-    (all : List Item) → taken ≡ b → order ≡ Listed → IsBare calls owner
+    (all : List Item) → taken ≡ b
+    → ((t : Files) (o : Outside) (g : Scene) → IsBareScene taken t o g → IsSceneOf calls owner taken order t o g)
     → IsOnlyListIn calls owner env taken order (tree_of tree) all → IsThere calls owner tree env taken order all
     → IsListOf tree env b (Ok all)
-listed calls owner tree env taken b order all same plain bare h there =
-    let l : IsOnlyListIn calls owner env b Listed (tree_of tree) all =
-    subst (λ (o : WalkOptions). IsOnlyListIn calls owner env o Listed (tree_of tree) all) same
-    (subst (λ (o : Order). IsOnlyListIn calls owner env taken o (tree_of tree) all) plain h) in
-    let t : IsThere calls owner tree env b Listed all =
-    subst (λ (o : WalkOptions). IsThere calls owner tree env o Listed all) same
-    (subst (λ (o : Order). IsThere calls owner tree env taken o all) plain there) in (
-      (t.0, t.1, λ g is. t.2 g (bare_scene calls owner b (tree_of tree) t.0 g bare is)),
-      (l.0, l.1, λ g items n is whole. l.2 g items n (bare_scene calls owner b (tree_of tree) l.0 g bare is) whole),
+listed calls owner tree env taken b order all same bare h there =
+    subst (λ (o : WalkOptions). IsListOf tree env o (Ok all)) same (
+      (there.0, there.1, λ g is. there.2 g (bare (tree_of tree) there.0 g is)),
+      (h.0, h.1, λ g items n is whole. h.2 g items n (bare (tree_of tree) h.0 g is) whole),
     )
 
--- why there is no list by such an owner
+-- why such a walk has no list
 pub unlisted : {F S : Type 0} (files : FileCalls F) (calls : Callbacks S) (f : F) (owner : S) (tree : Memory) (env : Env)
     (taken b : WalkOptions) (order : Order) (problem : Problem) (stopped : Stopped) → IsHonest files f (tree_of tree) → taken ≡ b
-    → order ≡ Listed → IsBare calls owner → stopped ≡ end_of problem
+    → ((t : Files) (o : Outside) (g : Scene) → IsBareScene taken t o g → IsSceneOf calls owner taken order t o g)
+    → stopped ≡ end_of problem
     → (problem ≡ memory) ⊎ ((problem ≡ io StepLimit) × IsAboveLimit files calls f owner env taken order)
     → IsListOf tree env b (Err stopped)
-unlisted files calls f owner tree env taken b order problem stopped honest same plain bare is (inl m) =
+unlisted files calls f owner tree env taken b order problem stopped honest same bare is (inl m) =
     subst (λ (s : Stopped). IsListOf tree env b (Err s)) (sym (is ∙ ap end_of m)) tt
-unlisted files calls f owner tree env taken b order problem stopped honest same plain bare is (inr h) =
-    let l = subst (λ (o : WalkOptions). IsAboveLimit files calls f owner env o Listed) same
-    (subst (λ (o : Order). IsAboveLimit files calls f owner env taken o) plain h.1) (tree_of tree) honest in
+unlisted files calls f owner tree env taken b order problem stopped honest same bare is (inr h) =
+    let l = h.1 (tree_of tree) honest in
     subst (λ (s : Stopped). IsListOf tree env b (Err s)) (sym (is ∙ ap end_of h.0))
-    (l.0, l.1, λ g items n p whole. l.2 g items n (bare_scene calls owner b (tree_of tree) l.0 g bare p) whole)
+    (subst (λ (o : WalkOptions). IsListOf tree env o (Err Limit)) same
+    (l.0, l.1, λ g items n p whole. l.2 g items n (bare (tree_of tree) l.0 g p) whole))
 
 module _ (builder files : Kept) (options : Setup) (told : Memory) (taken : WalkOptions) (b : builder ≡ setup.keeping options)
     (t : files ≡ tree.keeping told) (same : taken ≡ options.options) where

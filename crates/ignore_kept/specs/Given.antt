@@ -52,6 +52,7 @@ pub record IsGiven (asked : Wanted) (kind : ℕ) (bytes : Bytes) (fault : ℕ) (
   pub why : Option Fault
   pub numbered : fault_number why ≡ fault
   pub is_kind : kind_code g.kind ≡ kind
+  pub no_link : g.kind ≢ Some Symlink
   pub read : read_answer g.bytes g.fault ≡ read_given bytes why
   pub path : asked ≡ wanted.Canonical → path_answer g.path ≡ path_given bytes why
 
@@ -63,10 +64,10 @@ IsNoKind number = (kind : Option FileType) → kind_code kind ≡ number → kin
 abbrev pub IsNoFault : ℕ → Type 0
 IsNoFault number = (fault : Option Fault) → fault_number fault ≢ number
 
--- a number is that of this kind, or of none
+-- a number is that of this kind, which is no link, or of none
 abbrev pub IsKindAt : ℕ → Option (Option FileType) → Type 0
 IsKindAt number None = IsNoKind number
-IsKindAt number (Some kind) = kind_code kind ≡ number
+IsKindAt number (Some kind) = (kind_code kind ≡ number) × (kind ≢ Some Symlink)
 
 -- a number is that of this fault, or that there is none; or neither
 abbrev pub IsFaultAt : ℕ → Option (Option Fault) → Type 0

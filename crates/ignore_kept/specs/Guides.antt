@@ -10,10 +10,10 @@ use Rattle.ignore_base.specs.declared.fault.Fault.TheVariants.{NoCurrentDir}
 use Rattle.ignore_dir.specs.Load.{joined_some}
 use Rattle.ignore_dir.specs.Steps.{Reached}
 use Rattle.ignore_files.specs.declared.env.Env.{Env}
-use Rattle.ignore_guide.specs.Guide.{AreApart, IsSameGuide, KeepsPlaces, StandsFor}
-use Rattle.ignore_guide.specs.Hosted.{CallRefused, IsToldOf, StepGives}
+use Rattle.ignore_guide.specs.Guide.{IsSameGuide, KeepsPlaces, StandsFor}
+use Rattle.ignore_guide.specs.Hosted.{CallRefused, IsToldOf, StepGives, StepPlaces}
 use Rattle.ignore_guide.specs.Names.{IsAsked, IsLeft, IsNotLeft, is_name}
-use Rattle.ignore_guide.specs.Places.{IsGone, entered_at}
+use Rattle.ignore_guide.specs.Places.{IsGone, IsSamePlaces, KeepsOthers, entered_at}
 use Rattle.ignore_guide.specs.Told.{IsAlmostFresh, IsFresh, ReadTold}
 use Rattle.ignore_guide.specs.contracts.told.ToldFiles.TheImpl.{ghosts}
 use Rattle.ignore_guide.specs.declared.error.GuideError.{GuideError}
@@ -130,15 +130,19 @@ abbrev pub place_in : Step → Option Place
 place_in (step.Wants waiting) = None
 place_in (step.Arrived arrived) = Some arrived.place
 
--- a call goes on, by what was told: it waits, or its directory has come by that
+-- a call goes on, by what was told: it waits, and each place is as it was; or its directory has come by
+-- that to a new one, and what is at each other one stays
 abbrev pub Steps : Begun → Call → Told → Option Place → Begun → Type 0
 Steps old asked told place new =
-    (s : Step) × (guide : Guide) × StepGives ghosts asked told old.guide s guide × KeepsGuide old.guide guide
+    (s : Step) × (guide : Guide) × StepGives ghosts asked told old.guide s guide
+    × StepPlaces asked old.guide.places s guide.places × KeepsGuide old.guide guide
     × (new ≡ settled old guide s) × (place ≡ place_in s)
 
--- a call has ended without a place: no other place changed
+-- a call has ended without a place: each place is as it was
 abbrev pub Ends : Begun → Begun → Type 0
-Ends old new = (guide : Guide) × KeepsGuide old.guide guide × (new ≡ record old { guide = guide; waits = None })
+Ends old new =
+    (guide : Guide) × IsSamePlaces old.guide.places guide.places × KeepsGuide old.guide guide
+    × (new ≡ record old { guide = guide; waits = None })
 
 -- after an error nothing changed, unless memory ran out
 abbrev pub KeptBy : GuideError → Begun → Begun → Type 0
@@ -265,14 +269,13 @@ GivesAt kind bytes fault (stage.Begun before) old given new =
 abbrev pub Gives : ℕ → Bytes → ℕ → Guided → Result (Option Place) Stopped → Guided → Type 0
 Gives kind bytes fault old given new = GivesAt kind bytes fault old.stage old given new
 
--- a directory was left, and other places stay; or not, since a call waits, the place is none, or a
--- directory in it wasn't left
+-- a directory was left, and what is at each other place stays; or not, since a call waits, the place is
+-- none, or a directory in it wasn't left
 abbrev pub Leaves : Place → Begun → Result (Unit {0}) Stopped → Begun → Type 0
 Leaves place old (Ok done) new =
     (guide : Guide) × (new ≡ record old { guide = guide }) × (is_waiting old ≡ false) × IsLeft old.guide.places place
-    × IsGone guide.places place
-    × ((other : Place) (depth : ℕ) (at : Reached) → other ≢ place → AreApart old.guide place other → StandsFor old.guide other depth at
-    → StandsFor guide other depth at)
+    × IsGone guide.places place × KeepsOthers place old.guide.places guide.places
+    × ((other : Place) (depth : ℕ) (at : Reached) → other ≢ place → StandsFor old.guide other depth at → StandsFor guide other depth at)
     × ((other : Place) → IsGone old.guide.places other → IsGone guide.places other) × IsSameGuide old.guide guide
 Leaves place old (Err Misused) new =
     (new ≡ old) × ((is_waiting old ≡ true) ⊎ ((e : GuideError) × IsNotLeft old.guide.places place e))

@@ -1,8 +1,8 @@
 -- Walks over a tree that C tells.
 use Rattle.std.specs.Prelude.{◌≡◌, ◌⊎◌, ◌≤◌, ◌<◌, ◌+◌, ℕ, true, false, List, [], ◌++◌, Option, Some, None, Result, Ok, Err, length, map, slice_get, if◌then◌else◌}
+use Rattle.ignore.specs.Headline.{IsBareScene}
 use Rattle.ignore.specs.ItsList.{ForItsList, InItsScenes}
-use Rattle.ignore.specs.WalkWords.{AreLoads, Entry, Item, Outside, Scene, Whole, item_of}
-use Rattle.ignore.specs.FileWords.{Tree as Files}
+use Rattle.ignore.specs.WalkWords.{Item, Whole, item_of}
 use Rattle.ignore.specs.declared.options.WalkOptions.{WalkOptions}
 use Rattle.ignore_base.specs.Errors.{problem_text}
 use Rattle.ignore_base.specs.Problem.{Problem}
@@ -27,25 +27,14 @@ use Rattle.ignore_kept.specs.declared.walked.Walked.{Walked}
 abbrev pub keeping : Walked → Kept
 keeping walk = keeps.Walk walk
 
--- a scene of a walk in a tree, by options and by rules from outside: no filter, and entries as they
--- are listed
-pub record IsPlain (b : WalkOptions) (t : Files) (o : Outside) (g : Scene) : Type 0 where
-  pub tree : g.tree ≡ t
-  pub loads : AreLoads g.tree g.settings g.loads
-  pub settings : g.settings ≡ b.settings
-  pub outside : g.outside ≡ o
-  pub device : g.same_file_system ≡ b.same_file_system
-  pub filter : (e : Entry) → g.keep e ≡ true
-  pub order : g.order ≡ None
-
 -- the items are the list of the definition, which is there in each scene of a walk of options in a
 -- tree, by the rules from outside as they were read, and no others are; or the limit of steps is too
 -- low for it; or memory ran out
 abbrev pub IsListOf : Memory → Env → WalkOptions → Result (List Item) Stopped → Type 0
 IsListOf tree env b (Ok all) =
-    InItsScenes (IsPlain b (tree_of tree)) env b (tree_of tree) (λ g. (n : ℕ) × (n ≤ b.limit) × Whole g b.roots all n)
-    × ForItsList (IsPlain b (tree_of tree)) env b (tree_of tree) (λ g items n. (all ≡ items) × (n ≤ b.limit))
-IsListOf tree env b (Err Limit) = ForItsList (IsPlain b (tree_of tree)) env b (tree_of tree) (λ g items n. b.limit < n)
+    InItsScenes (IsBareScene b (tree_of tree)) env b (tree_of tree) (λ g. (n : ℕ) × (n ≤ b.limit) × Whole g b.roots all n)
+    × ForItsList (IsBareScene b (tree_of tree)) env b (tree_of tree) (λ g items n. (all ≡ items) × (n ≤ b.limit))
+IsListOf tree env b (Err Limit) = ForItsList (IsBareScene b (tree_of tree)) env b (tree_of tree) (λ g items n. b.limit < n)
 IsListOf tree env b (Err Full) = Unit {0}
 IsListOf tree env b (Err other) = ⊥
 

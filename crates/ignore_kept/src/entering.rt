@@ -399,7 +399,7 @@ fn read_on(
         mut told,
         question,
     } = reading;
-    take_down(alloc, &mut told, &question, given)?;
+    take_down(alloc, &mut told, question, given)?;
     read_outside(alloc, guided, root, told)
 }
 

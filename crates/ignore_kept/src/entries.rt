@@ -1,17 +1,40 @@
 //! What a directory lists, as C tells it.
-ghost use Rattle.std.specs.Prelude.{◌≡◌, true, false, IfOk, IfErr, Ok, Err, map, slice_get};
+ghost use Rattle.std.specs.Prelude.{◌≡◌, ◌<◌, ◌∷◌, [], true, false, IfOk, IfErr, Ok, Err, MatchOption, length, map, slice_get};
 ghost use Rattle.ignore_kept.specs.Listings.{AreAsMany, AreEntries, AreNames, ListsEntries, ListsNames, is_dir_kind, known, pieces, size_of};
 
 use crate::room::text_of;
 use crate::stopped::Stopped;
 use ignore::guide::Entry;
+use memchr::memchr;
 use std::alloc::{AllocError, Global};
+
+/// How many bytes a name has at least, with its zero, in most listings. Where it has fewer there is
+/// another allocation.
+const NAME_BYTES: usize = 8;
+
+/// What stands before the first zero of a text, and what stands after that.
+fn cut(text: &str) -> Option<(&str, &str)>
+    ensures { MatchOption result (pieces text.now ≡ text.now ∷ [])
+        (λ r. (pieces text.now ≡ r.0.now ∷ pieces r.1.now) × (length r.1.now < length text.now)) }
+{
+    match memchr(0, text.as_bytes()) {
+        Some(end) => Some((&text[..end], &text[end + 1..])),
+        None => None,
+    }
+}
 
 /// The texts between the zeros of a text.
 fn pieces(alloc: Global, text: &str) -> Result<Vec<&str>, AllocError>
     ensures { IfOk result (λ all. map (λ p. p.now) all.items ≡ pieces text.now) }
 {
-    text.split('\0').collect(alloc)
+    let mut all = Vec::with_capacity(alloc, text.len() / NAME_BYTES + 1)?;
+    let mut rest = text;
+    while let Some((piece, after)) = cut(rest) {
+        all.push(piece)?;
+        rest = after;
+    }
+    all.push(rest)?;
+    Ok(all)
 }
 
 /// The names in a text, each of which a zero ends.

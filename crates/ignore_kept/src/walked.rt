@@ -8,6 +8,7 @@ use crate::kept::Kept;
 use crate::lines::text_of_error;
 use crate::stopped::Stopped;
 use ignore::files::{Env, FileType, MemoryTree};
+use ignore::walk_laws::a_builder_without_closures;
 use ignore::{DirEntry, Error, Item, WalkBuilder, WalkOptions, collect_walk};
 use std::alloc::{AllocError, Global};
 
@@ -56,8 +57,10 @@ fn items_of(options: WalkOptions, tree: &MemoryTree, env: &Env) -> Result<Vec<It
     ensures stopped { IfErr result (λ e. IsListOf tree.now env.now options (Err e)) }
 {
     let builder = WalkBuilder::from_options(options);
+    let lent = &builder;
     tree.is_honest();
-    match collect_walk(&builder, tree, env) {
+    a_builder_without_closures(lent);
+    match collect_walk(lent, tree, env) {
         Ok(items) => Ok(items),
         Err(error) => Err(ended(error)),
     }

@@ -1,6 +1,7 @@
 pub mod Worked
 pub mod WorkedAgreement
 pub mod WorkedAbove
+mod WorkedEnds
 pub mod Arranged
 pub mod Sorting
 pub mod Given

@@ -1,14 +1,14 @@
 //! Walks.
 
 use ignore::files::{Env, MemoryTree};
-use ignore::{DirEntry, Walk, WalkBuilder, WalkOptions, collect_walk};
+use ignore::{DirEntry, Order, Walk, WalkBuilder, WalkOptions, collect_walk};
 use std::alloc::Global;
 
 /// Lists a folder, by name.
 fn list(rt: &HostRuntime, files: &MemoryTree, env: &Env) -> anyhow::Result<()> {
     let alloc = rt.alloc();
     let mut builder = WalkBuilder::new(alloc, "/project")?;
-    builder.sort_by_file_name(Box::new(alloc, |a: &str, b: &str| a.cmp(b))?);
+    builder.sort(Order::ByName);
     for entry in collect_walk(&builder, files, env)? {
         match entry {
             Ok(entry) => println!(rt; "{}", entry.path())?,

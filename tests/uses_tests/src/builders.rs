@@ -3,7 +3,7 @@ ghost use Rattle.std.specs.Iterator.{IsFinite};
 
 use crate::trees::{UNKNOWN, tree_of};
 use ignore::files::{MemoryTree, TreeError};
-use ignore::{Error, IncrementalIgnore, Item, Walk, WalkBuilder};
+use ignore::{Error, IncrementalIgnore, Item, Order, Walk, WalkBuilder, WalkOptions};
 use std::alloc::{AllocError, Global};
 use std::test::Fail;
 
@@ -117,5 +117,52 @@ fn roots_in_order(rt: HostRuntime) -> Result<(), Fail> {
         roots_of_three(rt.alloc(), &tree)?.as_str(),
         "/w/a /w/b /w/a "
     );
+    Ok(())
+}
+
+/// The items of a walk by these options.
+fn of_options(alloc: Global, tree: &MemoryTree, options: WalkOptions) -> Result<String, Error> {
+    let builder = WalkBuilder::from_options(options);
+    let walk = builder.build(tree, &UNKNOWN)?;
+    Ok(items_of(alloc, walk)?)
+}
+
+/// The items of a walk in this order.
+fn in_order(alloc: Global, tree: &MemoryTree, order: Order) -> Result<String, Error> {
+    let mut options = WalkOptions::empty(alloc);
+    options.push_root("/t")?;
+    options.sort(order);
+    of_options(alloc, tree, options)
+}
+
+#[test]
+fn an_order_without_a_closure(rt: HostRuntime) -> Result<(), Fail> {
+    let alloc = rt.alloc();
+    let tree = tree(alloc)?;
+    assert_eq!(rt; in_order(alloc, &tree, Order::Listed)?.as_str(), "/t /t/b /t/a ");
+    assert_eq!(rt; in_order(alloc, &tree, Order::ByName)?.as_str(), "/t /t/a /t/b ");
+    assert_eq!(rt; in_order(alloc, &tree, Order::ByPath)?.as_str(), "/t /t/a /t/b ");
+    Ok(())
+}
+
+/// The items of a walk by a comparison that is the wrong way round, and by texts: which counts is
+/// the last.
+fn by_the_last(alloc: Global, tree: &MemoryTree, texts_last: bool) -> Result<String, Error> {
+    let mut builder = WalkBuilder::new(alloc, "/t")?;
+    builder.sort(Order::ByName);
+    builder.sort_by_file_name(Box::new(alloc, |a: &str, b: &str| b.cmp(a))?);
+    if texts_last {
+        builder.sort(Order::ByName);
+    }
+    let walk = builder.build(tree, &UNKNOWN)?;
+    Ok(items_of(alloc, walk)?)
+}
+
+#[test]
+fn the_last_order_counts(rt: HostRuntime) -> Result<(), Fail> {
+    let alloc = rt.alloc();
+    let tree = tree(alloc)?;
+    assert_eq!(rt; by_the_last(alloc, &tree, false)?.as_str(), "/t /t/b /t/a ");
+    assert_eq!(rt; by_the_last(alloc, &tree, true)?.as_str(), "/t /t/a /t/b ");
     Ok(())
 }

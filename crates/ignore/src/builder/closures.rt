@@ -1,9 +1,10 @@
-//! An order, a filter, and what a walk asks of them.
+//! An order, with a comparison or without one, a filter, and what a walk asks of them.
 ghost use Rattle.std.specs.Prelude.{◌≡◌, Bool, MatchOption, None};
 ghost use Rattle.std.specs.declared.cmp.Ordering.{Ordering};
 ghost use Rattle.ignore_base.specs.Text.{Path};
 ghost use Rattle.ignore_walk.specs.Entry.{Entry, entry_of, problem_in};
 ghost use Rattle.ignore_walk.specs.declared.callbacks.Order.TheVariants.{ByName, ByPath};
+ghost use Rattle.ignore.specs.Builder.{with_order};
 ghost use Rattle.ignore.specs.Closures.{Compares, Filters};
 
 use crate::builder::WalkBuilder;
@@ -12,6 +13,18 @@ use ignore_walk::{DirEntry, Order};
 use std::cmp::Ordering;
 
 impl WalkBuilder {
+    /// Sorts the entries of each directory by their names, or by their paths, as texts compare; or
+    /// leaves them as they are listed (`Order::Listed`), as at first. It replaces any order that was
+    /// chosen before. Faults come first.
+    pub fn sort(&mut self, order: Order) -> &mut Self
+        ensures same_reference { result.ghost_name ≡ self.entry.ghost_name }
+        ensures value { result.now ≡ record self.old { options = with_order self.old.options order; sorter = None } }
+    {
+        self.options.sort(order);
+        self.sorter = None;
+        self
+    }
+
     /// Sorts the entries of each directory by their names, by a comparison that the caller has
     /// boxed. It replaces any order that was chosen before; at first there is none, and entries
     /// come as they are listed. Entries that tie stay as they are listed, and faults come first.
@@ -67,13 +80,13 @@ impl WalkBuilder {
         }
     }
 
-    /// How two paths, or two names, compare. Where no comparison is set, all tie.
+    /// How two paths, or two names, compare: where no comparison is set, as texts do.
     pub(crate) fn compared(&self, a: &str, b: &str) -> Ordering
         ensures { (cmp : Path → Path → Ordering) → Compares self.now.sorter (λ s x y order. Compare.post s.compare x y order) cmp
             → result ≡ cmp a.now b.now }
     {
         match &self.sorter {
-            None => Ordering::Equal,
+            None => a.cmp(b),
             Some(sorter) => (sorter.compare)(a, b),
         }
     }

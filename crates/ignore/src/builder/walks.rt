@@ -57,7 +57,7 @@ impl WalkBuilder {
         )
     }
 
-    /// The order of the entries of a directory.
+    /// The order that the comparison is asked for.
     fn order(&self) -> Order
         ensures { result ≡ order_of (λ s. s.order) self.now.sorter }
     {
@@ -69,8 +69,8 @@ impl WalkBuilder {
 }
 
 impl WalkOptions {
-    /// A walk of the roots by these settings, with this order, and with the filter and the
-    /// comparator that `owner` keeps.
+    /// A walk of the roots by these settings, with the filter and the comparator that `owner` keeps,
+    /// of which the latter is asked for this order.
     fn walk<'a, F: Files>(
         &self,
         files: &'a F,
@@ -109,7 +109,7 @@ impl WalkOptions {
         ensures { result ≡ options_of self.now order }
     {
         Options {
-            order,
+            order: self.chosen_order(order),
             same_file_system: self.same_file_system,
             limit: self.limit,
         }

@@ -20,6 +20,7 @@ impl Clone for WalkOptions {
             types: self.types.clone()?,
             explicit: self.explicit.clone()?,
             current_dir: copy_of(alloc, &self.current_dir)?,
+            order: self.order,
             limit: self.limit,
             same_file_system: self.same_file_system,
         })

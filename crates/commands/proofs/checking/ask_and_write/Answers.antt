@@ -38,6 +38,6 @@ returns-in_default-clause-ended g c = (
   [],
   None,
   (map string_bytes c.args.paths.now, refl),
-  (appends_nothing (g.W.Write.contents c.args.out.now), appends_nothing (g.E.Write.contents c.args.err.now)),
+  (appends_nothing (g.W.Output.contents c.args.out.now), appends_nothing (g.E.Write.contents c.args.err.now)),
   λ tree honest. inl refl,
 )

@@ -2,7 +2,7 @@ use Rattle.std.proofs.Common.{inr, subst, sym}
 use Rattle.std.proofs.lemmas.Result.{IfErr-weaker, IfOk-weaker}
 use Rattle.std.specs.Io.KnownBytes.{Appends}
 use Rattle.commands.specs.Checking.{line_for, report_for}
-use Rattle.commands.specs.Stops.{EndsUnreportedAfter}
+use Rattle.commands.specs.Stops.{EndsUnreportedAfter, SaidBy}
 use Rattle.commands.proofs.StopLemmas.{ends_reported_after, ends_unreported_after}
 use Rattle.commands.proofs.checking.check.Goals as goal
 
@@ -10,7 +10,7 @@ use Rattle.commands.proofs.checking.check.Goals as goal
 pub returns-in-Err-clause-checks : goal.returns-in-Err-clause-checks
 returns-in-Err-clause-checks g c =
     let h = c.in-Err.ensures.ended in
-    let out = Appends (g.W.Write.contents c.args.out.now) (g.W.Write.contents c.ask_and_write.new.out) in
+    let out = Appends (g.W.Output.contents c.args.out.now) (g.W.Output.contents c.ask_and_write.new.out) in
     let before = g.E.Write.contents c.args.err.now in
     let middle = g.E.Write.contents c.ask_and_write.new.err in
     let after = g.E.Write.contents c.report_stop.new.err in
@@ -20,7 +20,7 @@ returns-in-Err-clause-checks g c =
       h.0,
       h.1,
       h.2,
-      ends_reported_after line_for report_for h.0 h.1 out before middle after c.in-Err.stop h.3 k.1 k.2,
+      ends_reported_after (SaidBy (g.W.Output.fails c.ask_and_write.new.out)) line_for report_for h.0 h.1 out before middle after c.in-Err.stop h.3 c.in-Err.ensures.said k.1 k.2,
       h.4,
     ))
     c.report_stop.ensures.reports
@@ -29,7 +29,7 @@ returns-in-Err-clause-checks g c =
 pub returns-in-Err-clause-unreported : goal.returns-in-Err-clause-unreported
 returns-in-Err-clause-unreported g c =
     let h = c.in-Err.ensures.ended in
-    let out = Appends (g.W.Write.contents c.args.out.now) (g.W.Write.contents c.ask_and_write.new.out) in
+    let out = Appends (g.W.Output.contents c.args.out.now) (g.W.Output.contents c.ask_and_write.new.out) in
     let before = g.E.Write.contents c.args.err.now in
     let middle = g.E.Write.contents c.ask_and_write.new.err in
     let after = g.E.Write.contents c.report_stop.new.err in

@@ -19,7 +19,7 @@ pub loop-path-init : goal.loop-path-init
 loop-path-init g c = record {
   checks = (
     [],
-    checks_none (g.W.Write.contents c.args.out.now) (g.E.Write.contents c.args.err.now),
+    checks_none (g.W.Output.contents c.args.out.now) (g.E.Write.contents c.args.err.now),
     λ tree loads honest are agrees. (All-nil (IsAnswer (scene_of c.args.matcher.now.asked tree loads)), (refl, refl)),
   );
   agrees = λ tree loads honest are agrees. agrees;
@@ -48,7 +48,7 @@ loop-path-preserved g c =
       checks = (
         so.0 ++ one ∷ [],
         subst (λ (ps : List (List ℕ)). Checks ps (so.0 ++ one ∷ []) (cond (l.any || c.in_ok-any.field-0) 1 0)
-            (Appends (g.W.Write.contents c.args.out.now) (g.W.Write.contents c.check_path.new.out))
+            (Appends (g.W.Output.contents c.args.out.now) (g.W.Output.contents c.check_path.new.out))
             (Appends (g.E.Write.contents c.args.err.now) (g.E.Write.contents c.check_path.new.err)))
             (sym (map-take-push string_bytes c.args.paths.now l.path-index c.path-item.result c.loop-path-test.true c.path-item.is))
             (checks_more _ path so.0 one l.any c.in_ok-any.field-0 _ _ _ _ _ _ so.1 named h.2 h.3 h.4),
@@ -69,7 +69,7 @@ returns-clause-checks g c =
     let so = c.loop-path.invariant.checks in (
       so.0,
       subst (λ (ps : List (List ℕ)). Checks ps so.0 (cond c.loop-path.any 1 0)
-          (Appends (g.W.Write.contents c.args.out.now) (g.W.Write.contents c.loop-path.out))
+          (Appends (g.W.Output.contents c.args.out.now) (g.W.Output.contents c.loop-path.out))
           (Appends (g.E.Write.contents c.args.err.now) (g.E.Write.contents c.loop-path.err)))
           (ap (map string_bytes) (take_all c.loop-path.path-index c.args.paths.now c.loop-path-test.false)) so.1,
       so.2,
@@ -96,7 +96,7 @@ returns-in_err-any-clause-ended g c =
       last_of h.0 l.matcher.cache c.check_path.new.matcher.cache,
       first_of string_bytes c.args.paths.now l.path-index c.path-item.result so.0 h.0 c.loop-path-test.true c.path-item.is so.1.asked named,
       ends_after line_for report_for so.0 h.0
-          (g.W.Write.contents c.args.out.now) (g.W.Write.contents l.out) (g.W.Write.contents c.check_path.new.out)
+          (g.W.Output.contents c.args.out.now) (g.W.Output.contents l.out) (g.W.Output.contents c.check_path.new.out)
           (g.E.Write.contents c.args.err.now) (g.E.Write.contents l.err) (g.E.Write.contents c.check_path.new.err)
           c.in_err-any.field-0.0 so.1.answers so.1.reports h.1,
       λ tree loads honest are agrees.

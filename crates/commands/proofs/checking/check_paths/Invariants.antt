@@ -13,7 +13,7 @@ use Rattle.commands.proofs.checking.check_paths.Given as goal
 abbrev pub invariant-loop-path : goal.invariant-loop-path
 invariant-loop-path g l = record {
   checks : (all : List Checked) × Checks (map string_bytes (take l.path-index l.paths)) all (cond l.any 1 0)
-      (Appends (g.W.Write.contents l.fn.out) (g.W.Write.contents l.out)) (Appends (g.E.Write.contents l.fn.err) (g.E.Write.contents l.err))
+      (Appends (g.W.Output.contents l.fn.out) (g.W.Output.contents l.out)) (Appends (g.E.Write.contents l.fn.err) (g.E.Write.contents l.err))
       × ((tree : Tree) (loads : List ℕ → Loaded) → IsHonest g.F.Files l.world.files.now tree → AreLoads tree l.fn.matcher.asked.settings loads
       → Agrees (scene_of l.fn.matcher.asked tree loads) l.fn.matcher.cache → All (IsAnswer (scene_of l.fn.matcher.asked tree loads)) all
       × ReportsInTurn (scene_of l.fn.matcher.asked tree loads) all l.fn.matcher.cache l.matcher.cache);

@@ -8,7 +8,7 @@ use Rattle.commands.proofs.checking.write_found.Goals as goal
 -- cut after the word
 pub returns-in_err-write_bytes-2-clause-cut : goal.returns-in_err-write_bytes-2-clause-cut
 returns-in_err-write_bytes-2-clause-cut g c =
-    let contents = g.W.Write.contents in
+    let contents = g.W.Output.contents in
     let line = c.args.path.now ++ 10 ∷ [] in
     let word = word_of c.args.found.verdict in
     let first = subst (Appends (contents c.args.out.now) (contents c.write_bytes.new.out)) (c.as_bytes.ensures.value ∙ c.word_for.ensures)
@@ -20,7 +20,7 @@ returns-in_err-write_bytes-2-clause-cut g c =
 -- or after the space
 pub returns-clause-cut : goal.returns-clause-cut
 returns-clause-cut g c =
-    let contents = g.W.Write.contents in
+    let contents = g.W.Output.contents in
     let line = c.args.path.now ++ 10 ∷ [] in
     let word = word_of c.args.found.verdict in
     let first = subst (Appends (contents c.args.out.now) (contents c.write_bytes.new.out)) (c.as_bytes.ensures.value ∙ c.word_for.ensures)

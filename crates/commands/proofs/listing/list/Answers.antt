@@ -2,7 +2,7 @@ use Rattle.std.proofs.Common.{inr, subst, sym}
 use Rattle.std.proofs.lemmas.Result.{IfErr-weaker, IfOk-weaker}
 use Rattle.std.specs.Io.KnownBytes.{Appends}
 use Rattle.commands.specs.Listing.{lines_of, reports_of}
-use Rattle.commands.specs.Stops.{EndsUnreportedAfter}
+use Rattle.commands.specs.Stops.{EndsUnreportedAfter, SaidBy}
 use Rattle.commands.proofs.StopLemmas.{ends_reported_after, ends_unreported_after}
 use Rattle.commands.proofs.listing.list.Goals as goal
 
@@ -10,7 +10,7 @@ use Rattle.commands.proofs.listing.list.Goals as goal
 pub returns-in-Err-clause-lists : goal.returns-in-Err-clause-lists
 returns-in-Err-clause-lists g c =
     let h = c.in-Err.ensures.ended in
-    let out = Appends (g.W.Write.contents c.args.out.now) (g.W.Write.contents c.walk_and_write.new.out) in
+    let out = Appends (g.W.Output.contents c.args.out.now) (g.W.Output.contents c.walk_and_write.new.out) in
     let before = g.E.Write.contents c.args.err.now in
     let middle = g.E.Write.contents c.walk_and_write.new.err in
     let after = g.E.Write.contents c.report_stop.new.err in
@@ -19,7 +19,7 @@ returns-in-Err-clause-lists g c =
       k.0,
       h.0,
       h.1,
-      ends_reported_after lines_of reports_of h.0 h.1 out before middle after c.in-Err.stop h.2 k.1 k.2,
+      ends_reported_after (SaidBy (g.W.Output.fails c.walk_and_write.new.out)) lines_of reports_of h.0 h.1 out before middle after c.in-Err.stop h.2 c.in-Err.ensures.said k.1 k.2,
       h.3,
     ))
     c.report_stop.ensures.reports
@@ -28,7 +28,7 @@ returns-in-Err-clause-lists g c =
 pub returns-in-Err-clause-unreported : goal.returns-in-Err-clause-unreported
 returns-in-Err-clause-unreported g c =
     let h = c.in-Err.ensures.ended in
-    let out = Appends (g.W.Write.contents c.args.out.now) (g.W.Write.contents c.walk_and_write.new.out) in
+    let out = Appends (g.W.Output.contents c.args.out.now) (g.W.Output.contents c.walk_and_write.new.out) in
     let before = g.E.Write.contents c.args.err.now in
     let middle = g.E.Write.contents c.walk_and_write.new.err in
     let after = g.E.Write.contents c.report_stop.new.err in

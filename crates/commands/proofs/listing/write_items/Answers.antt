@@ -12,7 +12,7 @@ use Rattle.commands.proofs.listing.write_items.Goals as goal
 
 pub loop-item-init : goal.loop-item-init
 loop-item-init g c = record {
-  lists = appends_nothing (g.W.Write.contents c.args.out.now);
+  lists = appends_nothing (g.W.Output.contents c.args.out.now);
   reports = appends_nothing (g.E.Write.contents c.args.err.now);
   reported = refl;
   enough = All-nil (λ (item : Item). item ≢ Err memory);
@@ -42,7 +42,7 @@ returns-in_err-any-clause-ended g c =
       c.in_err-any.ensures.ended.0,
       c.in_err-any.ensures.ended.1,
       ends_after lines_of reports_of (map item_of l.yielded) c.in_err-any.ensures.ended.0
-          (g.W.Write.contents c.args.out.now) (g.W.Write.contents l.out) (g.W.Write.contents c.write_item.new.out)
+          (g.W.Output.contents c.args.out.now) (g.W.Output.contents l.out) (g.W.Output.contents c.write_item.new.out)
           (g.E.Write.contents c.args.err.now) (g.E.Write.contents l.err) (g.E.Write.contents c.write_item.new.err)
           c.in_err-any.field-0.0 l.invariant.lists l.invariant.reports c.in_err-any.ensures.ended.2,
     )

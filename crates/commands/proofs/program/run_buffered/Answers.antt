@@ -6,7 +6,7 @@ use Rattle.std.specs.List.{flat_map}
 use Rattle.commands.specs.declared.stop.Stop.TheVariants.{Memory, Write}
 use Rattle.commands.specs.Checking.{line_for, report_for}
 use Rattle.commands.specs.Listing.{lines_of, reports_of}
-use Rattle.commands.specs.Stops.{BreaksOff, reason}
+use Rattle.commands.specs.Stops.{BreaksOff, SaidBy, reason}
 use Rattle.commands.proofs.BufferLemmas.{checks_over, ends_after_over, ends_over, lists_over, prints_over, written_on}
 use Rattle.commands.proofs.GoneLemmas.{after_gone, after_reported, check_first, check_low, check_so_far, cut_none, cut_whole, gone_none, gone_whole}
 use Rattle.commands.proofs.GoneLemmas.{list_low, question_ended}
@@ -34,7 +34,7 @@ returns-in-Some-clause-prints g c = λ question is.
     c.in-Some.ensures h in
     elim (c.in_ok-status.ensures.prints question is) [
       | inl h ↦ inl (prints_over question _ out over err same h)
-      | inr (two, h) ↦ inr (two, ends_over question out over err same h)
+      | inr (two, h) ↦ inr (two, ends_over (SaidBy (λ kind. Unit {0})) question out over err same h)
     ]
 
 pub returns-in-Some-clause-lists : goal.returns-in-Some-clause-lists
@@ -48,7 +48,7 @@ returns-in-Some-clause-lists g c = λ roots is.
     c.in-Some.ensures h in
     elim (c.in_ok-status.ensures.lists roots is) [
       | inl (items, h, are) ↦ inl (items, lists_over items _ out over err same h, are)
-      | inr (two, items, next, h, begun) ↦ inr (two, items, next, ends_after_over lines_of reports_of items next out over err same h, begun)
+      | inr (two, items, next, h, begun) ↦ inr (two, items, next, ends_after_over (SaidBy (λ kind. Unit {0})) lines_of reports_of items next out over err same h, begun)
     ]
 
 pub returns-in-Some-clause-checks : goal.returns-in-Some-clause-checks
@@ -63,7 +63,7 @@ returns-in-Some-clause-checks g c = λ root paths is.
     elim (c.in_ok-status.ensures.checks root paths is) [
       | inl (all, h, are) ↦ inl (all, checks_over paths all _ out over err same h, are)
       | inr (two, all, next, first, h, so_far) ↦
-          inr (two, all, next, first, ends_after_over line_for report_for all next out over err same h, so_far)
+          inr (two, all, next, first, ends_after_over (SaidBy (λ kind. Unit {0})) line_for report_for all next out over err same h, so_far)
     ]
 
 -- without memory for a buffer nothing is run
@@ -77,7 +77,7 @@ returns-in_default-clause-gone g c = λ question is none.
 
 pub returns-in_default-clause-gone_list : goal.returns-in_default-clause-gone_list
 returns-in_default-clause-gone_list g c = λ roots is none.
-    let k = c.in_ok-report_stop.ensures.reports in ([], None, (Memory, k.1, k.2), λ tree honest. inl (inl (refl, refl)))
+    let k = c.in_ok-report_stop.ensures.reports in ([], None, (Memory, k.1, k.2), inl (inl (refl, refl)))
 
 pub returns-in_default-clause-gone_check : goal.returns-in_default-clause-gone_check
 returns-in_default-clause-gone_check g c = λ root paths is none.
@@ -100,7 +100,7 @@ pub returns-in_err-report_stop-clause-unreported_list : goal.returns-in_err-repo
 returns-in_err-report_stop-clause-unreported_list g c = λ roots is.
     let k = c.in_err-report_stop.ensures.unreported in
     let p = err_from_is_err_and c.from_residual.result c.from_residual.ensures.1 in
-    rw (p.1, p.2, k.0) ([], None, k.1, λ tree honest. inl (inl (refl, refl)))
+    rw (p.1, p.2, k.0) ([], None, k.1, inl (inl (refl, refl)))
 
 pub returns-in_err-report_stop-clause-unreported_check : goal.returns-in_err-report_stop-clause-unreported_check
 returns-in_err-report_stop-clause-unreported_check g c = λ root paths is.
@@ -131,7 +131,7 @@ returns-in_err-status-clause-unreported_list g c = λ roots is.
       h.0,
       h.1,
       after_gone lines_of reports_of h.0 h.1 out (λ bs. BreaksOff bs (reason stop) err) stop h.2,
-      λ tree honest. inl (h.3 tree honest),
+      inl h.3,
     )
 
 pub returns-in_err-status-clause-unreported_check : goal.returns-in_err-status-clause-unreported_check
@@ -150,7 +150,7 @@ returns-in_ok-report_stop-in-None-clause-usage g c = λ is. absurd (omega (arith
 pub returns-in_ok-report_stop-in-None-clause-gone : goal.returns-in_ok-report_stop-in-None-clause-gone
 returns-in_ok-report_stop-in-None-clause-gone g c = λ question is none.
     let k = c.in_ok-report_stop-in-None.ensures.reports in
-    gone_whole question c.in_ok-status.status (Appends (writer_contents g.W.Write.contents c.in-Ok.buffered) (writer_contents g.W.Write.contents c.run.new.out)) (g.E.Write.contents c.args.err.now) (g.E.Write.contents c.run.new.err) (g.E.Write.contents c.report_stop-in-None.new.err)
+    gone_whole (SaidBy (λ kind. Unit {0})) question c.in_ok-status.status (Appends (writer_contents g.W.Write.contents c.in-Ok.buffered) (writer_contents g.W.Write.contents c.run.new.out)) (g.E.Write.contents c.args.err.now) (g.E.Write.contents c.run.new.err) (g.E.Write.contents c.report_stop-in-None.new.err)
     (c.in_ok-status.ensures.prints question is) c.if-status-lt2.true k.1 k.2
 
 pub returns-in_ok-report_stop-in-None-clause-gone_list : goal.returns-in_ok-report_stop-in-None-clause-gone_list
@@ -161,7 +161,7 @@ returns-in_ok-report_stop-in-None-clause-gone_list g c = λ roots is none.
         items,
         None,
         (Write, k.1, appends_on (g.E.Write.contents c.args.err.now) (g.E.Write.contents c.run.new.err) (g.E.Write.contents c.report_stop-in-None.new.err) (flat_map reports_of items) (reason Write) h.reports k.2),
-        λ tree honest. inr (are tree honest),
+        inr are,
       )
       | inr (two, items, next, h, begun) ↦ absurd (omega (arith, two, c.if-status-lt2.true))
     ]
@@ -191,7 +191,7 @@ returns-in_err-report_stop-in-None-clause-unreported g c = λ question is.
     let k = c.in_err-report_stop-in-None.ensures.unreported in
     let p = err_from_is_err_and c.from_residual-in_err-report_stop-in-None.result c.from_residual-in_err-report_stop-in-None.ensures.1 in
     rw (p.1, p.2, k.0) (
-    cut_whole question c.in_ok-status.status (Appends (writer_contents g.W.Write.contents c.in-Ok.buffered) (writer_contents g.W.Write.contents c.run.new.out)) (g.E.Write.contents c.args.err.now) (g.E.Write.contents c.run.new.err) (g.E.Write.contents c.report_stop-in-None.new.err)
+    cut_whole (SaidBy (λ kind. Unit {0})) question c.in_ok-status.status (Appends (writer_contents g.W.Write.contents c.in-Ok.buffered) (writer_contents g.W.Write.contents c.run.new.out)) (g.E.Write.contents c.args.err.now) (g.E.Write.contents c.run.new.err) (g.E.Write.contents c.report_stop-in-None.new.err)
     (c.in_ok-status.ensures.prints question is) c.if-status-lt2.true k.1
     )
 
@@ -204,7 +204,7 @@ returns-in_err-report_stop-in-None-clause-unreported_list g c = λ roots is.
         items,
         None,
         cut_after (g.E.Write.contents c.args.err.now) (g.E.Write.contents c.run.new.err) (g.E.Write.contents c.report_stop-in-None.new.err) (flat_map reports_of items) (reason Write) h.reports k.1,
-        λ tree honest. inr (are tree honest),
+        inr are,
       )
       | inr (two, items, next, h, begun) ↦ absurd (omega (arith, two, c.if-status-lt2.true))
     ])
@@ -232,7 +232,7 @@ returns-in-None-2-clause-usage g c = λ is. inl (c.in_ok-status.ensures.usage is
 
 pub returns-in-None-2-clause-gone : goal.returns-in-None-2-clause-gone
 returns-in-None-2-clause-gone g c = λ question is none.
-    question_ended question c.in_ok-status.status (Appends (writer_contents g.W.Write.contents c.in-Ok.buffered) (writer_contents g.W.Write.contents c.run.new.out)) (Appends (g.E.Write.contents c.args.err.now) (g.E.Write.contents c.run.new.err))
+    question_ended (SaidBy (λ kind. Unit {0})) question c.in_ok-status.status (Appends (writer_contents g.W.Write.contents c.in-Ok.buffered) (writer_contents g.W.Write.contents c.run.new.out)) (Appends (g.E.Write.contents c.args.err.now) (g.E.Write.contents c.run.new.err))
     (c.in_ok-status.ensures.prints question is) c.if-status-lt2.false
 
 pub returns-in-None-2-clause-gone_list : goal.returns-in-None-2-clause-gone_list
@@ -242,7 +242,7 @@ returns-in-None-2-clause-gone_list g c = λ roots is none.
     elim (c.in_ok-status.ensures.lists roots is) [
       | inl (items, h, are) ↦ absurd (list_low items c.in_ok-status.status out err h c.if-status-lt2.false)
       | inr (two, items, next, h, begun) ↦
-          (items, next, after_reported lines_of reports_of items next out err h, λ tree honest. inl (begun tree honest))
+          (items, next, after_reported (SaidBy (λ kind. Unit {0})) lines_of reports_of items next out err h, inl begun)
     ]
 
 pub returns-in-None-2-clause-gone_check : goal.returns-in-None-2-clause-gone_check
@@ -251,7 +251,7 @@ returns-in-None-2-clause-gone_check g c = λ root paths is none.
     let err = Appends (g.E.Write.contents c.args.err.now) (g.E.Write.contents c.run.new.err) in
     elim (c.in_ok-status.ensures.checks root paths is) [
       | inl (all, h, are) ↦ absurd (check_low paths all c.in_ok-status.status out err h c.if-status-lt2.false)
-      | inr (two, all, next, first, h, so_far) ↦ (all, next, first, after_reported line_for report_for all next out err h, so_far)
+      | inr (two, all, next, first, h, so_far) ↦ (all, next, first, after_reported (SaidBy (λ kind. Unit {0})) line_for report_for all next out err h, so_far)
     ]
 
 -- the usage is reported as without a buffer

@@ -8,7 +8,7 @@ use Rattle.commands.proofs.run.answer.Goals as goal
 -- out of memory for a builder, nothing is reported
 pub returns-in_default-clause-ended : goal.returns-in_default-clause-ended
 returns-in_default-clause-ended g c = (
-  appends_nothing (g.W.Write.contents c.args.out.now),
+  appends_nothing (g.W.Output.contents c.args.out.now),
   (
     [],
     lines c.args.request.rules.now,

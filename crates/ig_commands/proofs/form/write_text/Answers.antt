@@ -14,7 +14,7 @@ returns-then-form-clause-writes g c =
     let bytes = c.as_bytes-bytes.result.now in
     let is = c.as_bytes-bytes.ensures.value in
     let so = λ (t : List ℕ).
-    OnOk c.write_bytes.result (Appends (g.W.Write.contents c.args.out.now) (g.W.Write.contents c.write_bytes.new.out) t) in
+    OnOk c.write_bytes.result (Appends (g.W.Output.contents c.args.out.now) (g.W.Output.contents c.write_bytes.new.out) t) in
     elim c.then-form.branch [
       | then-form-via-then-form w ↦
           subst so (plain_field c.args.form.null c.args.text.now bytes is (inl w.if-form.true)) c.write_bytes.ensures.writes

@@ -7,4 +7,4 @@ use Rattle.ig_commands.proofs.form.write_text.Given as goal
 -- the quote and the bytes so far are written
 abbrev pub invariant-loop-byte : goal.invariant-loop-byte
 invariant-loop-byte g l =
-    Appends (g.W.Write.contents l.fn.out) (g.W.Write.contents l.out) (34 ∷ flat_map quoted_byte (take l.byte-index l.bytes))
+    Appends (g.W.Output.contents l.fn.out) (g.W.Output.contents l.out) (34 ∷ flat_map quoted_byte (take l.byte-index l.bytes))

@@ -8,9 +8,8 @@ use Rattle.ignore_base.specs.Problem.{problem_of}
 use Rattle.ignore_dir.specs.Scene.{scene}
 use Rattle.ig_commands.specs.Counts.{counted}
 use Rattle.ig_commands.specs.Ignored.{OfShown, all_met, all_written, seen_in}
-use Rattle.ig_commands.specs.Listing.{GoesBy}
 use Rattle.ig_commands.specs.Reports.{report_of}
-use Rattle.ig_commands.specs.Surveys.{IsBegun, IsWhole, OfRoot, all_seen, all_told, begun_told, is_wrong}
+use Rattle.ig_commands.specs.Surveys.{AreRootsBy, IsBegun, IsWhole, OfRoot, all_seen, all_told, begun_told, is_wrong}
 use Rattle.ig_commands.proofs.ShownLemmas.{each_met, met_more, none_judged, roots_met}
 use Rattle.ig_commands.proofs.SurveyLemmas.{begun_of, roots_of}
 use Rattle.ig_commands.proofs.ReportLemmas.{counts_told, reported_as, status_as, wrong_as}
@@ -28,7 +27,7 @@ pub returns-in_default-clause-ended : goal.returns-in_default-clause-ended
 returns-in_default-clause-ended g c = (
   [],
   (
-    appends_nothing (g.W.Write.contents c.args.out.now),
+    appends_nothing (g.W.Output.contents c.args.out.now),
     subst (Appends (g.E.Write.contents c.args.err.now) (g.E.Write.contents c.report_all.new.err))
         (sym (append-nil (flat_map report_of (map (option_map problem_of) c.args.asked.errors.items))))
         (reported_as c.deref.result.now c.args.asked.errors.items (g.E.Write.contents c.args.err.now) (g.E.Write.contents c.report_all.new.err) c.deref.ensures.value c.in_ok-reported.ensures.reports.1),
@@ -46,7 +45,7 @@ returns-in_err-counts-clause-ended g c =
     rw (p.1, p.2) (
       all,
       ends_after_reports (all_written o all) (flat_map report_of (map (option_map problem_of) c.args.asked.errors.items))
-          (begun_told o (all_met all)) (Appends (g.W.Write.contents c.args.out.now) (g.W.Write.contents c.survey_all.new.out))
+          (begun_told o (all_met all)) (Appends (g.W.Output.contents c.args.out.now) (g.W.Output.contents c.survey_all.new.out))
           (g.E.Write.contents c.args.err.now) (g.E.Write.contents c.report_all.new.err) (g.E.Write.contents c.survey_all.new.err)
           c.in_err-counts.field-0.0 (reported_as c.deref.result.now c.args.asked.errors.items (g.E.Write.contents c.args.err.now) (g.E.Write.contents c.report_all.new.err) c.deref.ensures.value c.in_ok-reported.ensures.reports.1) h.8,
       (λ tree honest none.
@@ -59,7 +58,7 @@ returns-in_err-counts-clause-ended g c =
             begun.0,
             met_more h.0 h.1,
             begun.1,
-            subst (λ (ps : List _). GoesBy tree c.args.world.now.env.now o c.args.asked.walk (ps ++ h.1.0 ∷ begun.0) begun.1) (roots_met h.0) begun.2,
+            subst (λ (ps : List _). AreRootsBy tree c.args.world.now.env.now o c.args.asked.walk (ps ++ h.1.0 ∷ begun.0) begun.1) (roots_met h.0) begun.2,
             λ loads are.
                 let facts = begun.3 loads are in
                 (each_met (λ (r : OfRoot). IsWhole (scene tree loads c.args.asked.walk.settings begun.1 r.0) r.1) h.0 facts.0, facts.1),
@@ -97,7 +96,7 @@ returns-clause-lists g c =
           let roots = roots_of g.F.Files c.args.world.now.files.now seen_in (λ (r : OfShown). IsWhole) tree c.args.world.now.env.now o c.args.asked.walk honest none made.0
           made.1 c.in-Ok.matchers.items made.2 c.in-Ok.ensures.empty h.0 h.1 in (
             roots.0,
-            subst (λ (ps : List _). GoesBy tree c.args.world.now.env.now o c.args.asked.walk ps roots.0) (roots_met h.0) roots.1,
+            subst (λ (ps : List _). AreRootsBy tree c.args.world.now.env.now o c.args.asked.walk ps roots.0) (roots_met h.0) roots.1,
             λ loads are. each_met (λ (r : OfRoot). IsWhole (scene tree loads c.args.asked.walk.settings roots.0 r.0) r.1) h.0 (roots.2 loads are),
           )),
       h.6,

@@ -19,7 +19,7 @@ pub loop-matcher-init : goal.loop-matcher-init
 loop-matcher-init g c = (
   [],
   tt,
-  appends_nothing (g.W.Write.contents c.args.out.now),
+  appends_nothing (g.W.Output.contents c.args.out.now),
   appends_nothing (g.E.Write.contents c.args.err.now),
   c.begun-counts.ensures.reported,
   c.begun-counts.ensures.found,
@@ -84,7 +84,7 @@ returns-in_err-survey_root-clause-ended g c =
       so.1,
       h.1,
       ends_root o (λ (x : OfShown). flat_map (written o x.0) x.1) so.0 r
-          (g.W.Write.contents c.args.out.now) (g.W.Write.contents l.out) (g.W.Write.contents c.survey_root.new.out)
+          (g.W.Output.contents c.args.out.now) (g.W.Output.contents l.out) (g.W.Output.contents c.survey_root.new.out)
           (g.E.Write.contents c.args.err.now) (g.E.Write.contents l.err) (g.E.Write.contents c.survey_root.new.err)
           c.in_err-survey_root.field-0.0 so.2 so.3 h.2,
       λ tree honest. judged_root tree o so.0 r (so.6 tree honest) (h.3 tree honest),

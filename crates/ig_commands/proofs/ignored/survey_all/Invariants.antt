@@ -12,7 +12,7 @@ use Rattle.ig_commands.proofs.ignored.survey_all.Given as goal
 abbrev pub invariant-loop-matcher : goal.invariant-loop-matcher
 invariant-loop-matcher g l =
     (all : List OfShown) × AllZip (λ m r. OfMatcher g.F.Files l.world.files.now IsWhole m (seen_in r)) l.yielded all
-    × Appends (g.W.Write.contents l.fn.out) (g.W.Write.contents l.out) (all_written l.choice.options.now all)
+    × Appends (g.W.Output.contents l.fn.out) (g.W.Output.contents l.out) (all_written l.choice.options.now all)
     × Appends (g.E.Write.contents l.fn.err) (g.E.Write.contents l.err) (all_told l.choice.options.now (all_met all))
     × (l.counts.reported ≡ counted 0 (map (is_wrong l.choice.options.now) (all_seen (all_met all))))
     × (l.counts.found ≡ found_in l.choice.options.now all)

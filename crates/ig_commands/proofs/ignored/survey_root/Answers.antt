@@ -15,7 +15,7 @@ returns-in_default-clause-ended g c =
     let m = c.args.matcher in (
       (string_bytes m.asked.root, []),
       (refl, λ empty tree loads honest are. begun_none (scene_of m.asked tree loads) m.cache empty),
-      (appends_nothing (g.W.Write.contents c.args.out.now), appends_nothing (g.E.Write.contents c.args.err.now)),
+      (appends_nothing (g.W.Output.contents c.args.out.now), appends_nothing (g.E.Write.contents c.args.err.now)),
       λ tree honest. All-nil (IsJudged tree c.args.choice.now.options.now (string_bytes m.asked.root)),
     )
 
@@ -25,7 +25,7 @@ returns-in_default-new-clause-ended g c =
     let m = c.args.matcher in (
       (string_bytes m.asked.root, []),
       (refl, λ empty tree loads honest are. begun_none (scene_of m.asked tree loads) m.cache empty),
-      (appends_nothing (g.W.Write.contents c.args.out.now), appends_nothing (g.E.Write.contents c.args.err.now)),
+      (appends_nothing (g.W.Output.contents c.args.out.now), appends_nothing (g.E.Write.contents c.args.err.now)),
       λ tree honest. All-nil (IsJudged tree c.args.choice.now.options.now (string_bytes m.asked.root)),
     )
 

@@ -7,7 +7,7 @@ use Rattle.ig_commands.proofs.ignored.survey_worktree.Goals as goal
 -- memory ran out before it began
 pub returns-in_default-clause-ended : goal.returns-in_default-clause-ended
 returns-in_default-clause-ended g c =
-    inr (appends_nothing (g.W.Write.contents c.args.out.now), appends_nothing (g.E.Write.contents c.args.err.now))
+    inr (appends_nothing (g.W.Output.contents c.args.out.now), appends_nothing (g.E.Write.contents c.args.err.now))
 
 pub returns-clause-lists : goal.returns-clause-lists
 returns-clause-lists g c =

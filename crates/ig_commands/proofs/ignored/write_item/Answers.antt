@@ -15,7 +15,7 @@ returns-in-Ok-clause-writes g c =
     let root = place.root.now in
     subst
     (λ (i : Result Surveyed Error). IfOk c.write_entry.result (λ seen. (left_out : Bool)
-    × Appends (g.W.Write.contents c.args.out.now) (g.W.Write.contents c.write_entry.new.out) (written o root (seen_of i, left_out))
+    × Appends (g.W.Output.contents c.args.out.now) (g.W.Output.contents c.write_entry.new.out) (written o root (seen_of i, left_out))
     × (seen.found ≡ is_found o (seen_of i, left_out))
     × ((tree : Tree) → IsHonest g.G.Files place.bare.now tree → IsJudged tree o root (seen_of i, left_out))))
     (sym c.in-Ok.is) c.write_entry.ensures.writes

@@ -20,7 +20,7 @@ pub loop-item-init : goal.loop-item-init
 loop-item-init g c = (
   [],
   refl,
-  appends_nothing (g.W.Write.contents c.args.out.now),
+  appends_nothing (g.W.Output.contents c.args.out.now),
   appends_nothing (g.E.Write.contents c.args.err.now),
   c.begun-counts.ensures.reported,
   c.begun-counts.ensures.found,
@@ -92,7 +92,7 @@ returns-in_err-write_item-clause-ended g c =
       ),
       so.1,
       ends_after (flat_map (written place.options.now place.root.now) so.0) (told_from place.options.now c.args.names.now (map (λ (s : Shown). s.0) so.0))
-          (g.W.Write.contents c.args.out.now) (g.W.Write.contents l.out) (g.W.Write.contents c.write_item.new.out)
+          (g.W.Output.contents c.args.out.now) (g.W.Output.contents l.out) (g.W.Output.contents c.write_item.new.out)
           (g.E.Write.contents c.args.err.now) (g.E.Write.contents l.err) (g.E.Write.contents c.write_item.new.err)
           c.in_err-write_item.field-0.0 so.2 so.3 c.in_err-write_item.ensures.ended,
       so.6,

@@ -14,7 +14,7 @@ use Rattle.ig_commands.proofs.ignored.write_items.Given as goal
 abbrev pub invariant-loop-item : goal.invariant-loop-item
 invariant-loop-item g l =
     (shown : List Shown) × (map (λ (s : Shown). s.0) shown ≡ map seen_of l.yielded)
-    × Appends (g.W.Write.contents l.fn.out) (g.W.Write.contents l.out) (flat_map (written l.place.options.now l.place.root.now) shown)
+    × Appends (g.W.Output.contents l.fn.out) (g.W.Output.contents l.out) (flat_map (written l.place.options.now l.place.root.now) shown)
     × Appends (g.E.Write.contents l.fn.err) (g.E.Write.contents l.err) (told_from l.place.options.now l.fn.names (map (λ (s : Shown). s.0) shown))
     × (l.counts.reported ≡ counted 0 (map (is_wrong l.place.options.now) (map (λ (s : Shown). s.0) shown)))
     × (l.counts.found ≡ counted 0 (map (is_found l.place.options.now) shown))

@@ -16,7 +16,7 @@ returns-clause-answers g c =
       c.in-Ok.given,
       one,
       c.in-Ok.ensures.given,
-      subst (λ r. Appends (g.W.Write.contents c.args.out.now) (g.W.Write.contents c.write_said.new.out) (written c.args.asking.now.options.now r one)) root
+      subst (λ r. Appends (g.W.Output.contents c.args.out.now) (g.W.Output.contents c.write_said.new.out) (written c.args.asking.now.options.now r one)) root
           c.in_ok-seen.ensures.writes,
       subst (λ r. Appends (g.E.Write.contents c.args.err.now) (g.E.Write.contents c.write_said.new.err) (reports c.args.asking.now.options.now r one)) root
           c.in_ok-seen.ensures.reports,
@@ -28,13 +28,13 @@ returns-clause-answers g c =
 
 -- out of memory for what it gives
 pub returns-in_default-clause-ended : goal.returns-in_default-clause-ended
-returns-in_default-clause-ended g c = (appends_nothing (g.W.Write.contents c.args.out.now), appends_nothing (g.E.Write.contents c.args.err.now))
+returns-in_default-clause-ended g c = (appends_nothing (g.W.Output.contents c.args.out.now), appends_nothing (g.E.Write.contents c.args.err.now))
 
 -- or for what becomes of that
 pub returns-in_err-said-clause-ended : goal.returns-in_err-said-clause-ended
 returns-in_err-said-clause-ended g c =
     let p = err_from_is_err_and c.from_residual.result c.from_residual.ensures.1 in
-    rw (p.1, p.2, c.in_err-said.ensures.ended) (appends_nothing (g.W.Write.contents c.args.out.now), appends_nothing (g.E.Write.contents c.args.err.now))
+    rw (p.1, p.2, c.in_err-said.ensures.ended) (appends_nothing (g.W.Output.contents c.args.out.now), appends_nothing (g.E.Write.contents c.args.err.now))
 
 -- or what becomes of it can't be written
 pub returns-in_err-seen-clause-ended : goal.returns-in_err-seen-clause-ended

@@ -39,7 +39,7 @@ loop-text-init g c =
         [],
         known_none o [] (g.R.Read.remaining c.args.input) (split_known_bytes g.R.Read.remaining c.into_iter-text-iterator.result)
             (ap (split_known_bytes g.R.Read.remaining) same ∙ c.split-text-items.ensures.bytes),
-        appends_nothing (g.W.Write.contents c.args.out.now),
+        appends_nothing (g.W.Output.contents c.args.out.now),
         appends_nothing (g.E.Write.contents c.args.err.now),
         c.begun-counts.ensures.reported,
         c.begun-counts.ensures.found,
@@ -75,7 +75,7 @@ loop-text-preserved g c =
             (split_known_bytes g.R.Read.remaining c.next.new.self) _ l.number c.saturating_add-number.result c.in-Ok.text.items
             so.0 (so.0 ++ a.0 ∷ []) a.0 l.invariant.byte so.2 step n a.2 refl,
         appends_kept _ _ _ _ (text_more (written o root) so.1 a.1 _ _ _ so.3
-            (subst (λ r. Appends (g.W.Write.contents l.out) (g.W.Write.contents c.answer.new.out) (written o r a.1)) at_root a.3)) c.flush.ensures.written,
+            (subst (λ r. Appends (g.W.Output.contents l.out) (g.W.Output.contents c.answer.new.out) (written o r a.1)) at_root a.3)) c.flush.ensures.written,
         text_more (reports c.args.asking.now.options.now root) so.1 a.1 _ _ _ so.4
             (subst (λ r. Appends (g.E.Write.contents l.err) (g.E.Write.contents c.answer.new.err) (reports c.args.asking.now.options.now r a.1)) at_root a.4),
         counts_more (is_wrong c.args.asking.now.options.now) so.1 a.1 _ _ _ so.5 c.with-counts.ensures.reported a.5,
@@ -114,7 +114,7 @@ returns-in-Err-clause-ended g c =
       so.1,
       l.matcher.cache,
       known_first c.args.asking.now.options.now (g.R.Read.remaining c.args.input) (split_known_bytes g.R.Read.remaining l.text-iterator) l.number so.0 so.2,
-      ends_read _ _ (Appends (g.W.Write.contents c.args.out.now) (g.W.Write.contents l.out)) (Appends (g.E.Write.contents c.args.err.now) (g.E.Write.contents l.err))
+      ends_read _ _ (Appends (g.W.Output.contents c.args.out.now) (g.W.Output.contents l.out)) (Appends (g.E.Write.contents c.args.err.now) (g.E.Write.contents l.err))
           c.read_stop.result c.read_stop.ensures.ended so.3 so.4,
       λ tree loads honest are agrees. (so.7 tree loads honest are agrees).0,
     )
@@ -132,7 +132,7 @@ returns-in_err-seen-clause-ended g c =
       l.matcher.cache,
       known_first c.args.asking.now.options.now (g.R.Read.remaining c.args.input) (split_known_bytes g.R.Read.remaining l.text-iterator) l.number so.0 so.2,
       inl (ends_after (flat_map (written c.args.asking.now.options.now root) so.1) (flat_map (reports c.args.asking.now.options.now root) so.1)
-          (g.W.Write.contents c.args.out.now) (g.W.Write.contents l.out) (g.W.Write.contents c.answer.new.out)
+          (g.W.Output.contents c.args.out.now) (g.W.Output.contents l.out) (g.W.Output.contents c.answer.new.out)
           (g.E.Write.contents c.args.err.now) (g.E.Write.contents l.err) (g.E.Write.contents c.answer.new.err)
           c.in_err-seen.field-0.0 so.3 so.4 c.in_err-seen.ensures.ended),
       λ tree loads honest are agrees. (so.7 tree loads honest are agrees).0,
@@ -164,7 +164,7 @@ returns-in_err-flush-clause-ended g c =
       so.1 ++ a.1 ∷ [],
       c.answer.new.matcher.cache,
       known_first o (g.R.Read.remaining c.args.input) (split_known_bytes g.R.Read.remaining c.next.new.self) c.saturating_add-number.result (so.0 ++ a.0 ∷ []) known,
-      inl (ends_unwritten _ _ (Appends (g.W.Write.contents c.args.out.now) (g.W.Write.contents c.flush.new.out)) (Appends (g.E.Write.contents c.args.err.now) (g.E.Write.contents c.answer.new.err))
+      inl (ends_unwritten _ _ (Appends (g.W.Output.contents c.args.out.now) (g.W.Output.contents c.flush.new.out)) (Appends (g.E.Write.contents c.args.err.now) (g.E.Write.contents c.answer.new.err))
           c.in_err-flush.field-0.0 c.in_err-flush.ensures.ended
           (text_more (reports c.args.asking.now.options.now root) so.1 a.1 _ _ _ so.4
           (subst (λ r. Appends (g.E.Write.contents l.err) (g.E.Write.contents c.answer.new.err) (reports c.args.asking.now.options.now r a.1)) at_root a.4))),

@@ -23,7 +23,7 @@ invariant-loop-text g l = record {
   byte : split_byte l.text-iterator ≡ end_byte l.asking.options.now;
   answers : (given : List Given) × (said : List Said)
       × Known l.asking.options.now [] (g.R.Read.remaining l.fn.input) (split_known_bytes g.R.Read.remaining l.text-iterator) l.number given
-      × Appends (g.W.Write.contents l.fn.out) (g.W.Write.contents l.out) (flat_map (written l.asking.options.now (string_bytes l.fn.matcher.asked.root)) said)
+      × Appends (g.W.Output.contents l.fn.out) (g.W.Output.contents l.out) (flat_map (written l.asking.options.now (string_bytes l.fn.matcher.asked.root)) said)
       × Appends (g.E.Write.contents l.fn.err) (g.E.Write.contents l.err) (flat_map (reports l.asking.options.now (string_bytes l.fn.matcher.asked.root)) said)
       × (l.counts.reported ≡ counted 0 (map (is_wrong l.asking.options.now) said)) × (l.counts.found ≡ counted 0 (map is_found said))
       × ((tree : Tree) (loads : List ℕ → Loaded) → IsHonest g.F.Files l.asking.world.now.files.now tree

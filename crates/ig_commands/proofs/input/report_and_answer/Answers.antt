@@ -28,7 +28,7 @@ returns-in_default-clause-ended g c = (
   [],
   none_first c.args.asking.now.options.now (g.R.Read.remaining c.args.input),
   inl (
-    appends_nothing (g.W.Write.contents c.args.out.now),
+    appends_nothing (g.W.Output.contents c.args.out.now),
     subst (Appends (g.E.Write.contents c.args.err.now) (g.E.Write.contents c.report_all.new.err))
         (sym (append-nil (flat_map report_of (map (option_map problem_of) c.args.asked.errors.items))))
         (reported_as c.deref.result.now c.args.asked.errors.items (g.E.Write.contents c.args.err.now) (g.E.Write.contents c.report_all.new.err) c.deref.ensures.value c.in_ok-reported.ensures.reports.1),
@@ -50,7 +50,7 @@ returns-in_err-counts-clause-ended g c =
       h.3,
       ends_reading_reports (flat_map (written o root) h.1)
           (flat_map report_of (map (option_map problem_of) c.args.asked.errors.items)) (flat_map (reports c.args.asking.now.options.now root) h.1)
-          (Appends (g.W.Write.contents c.args.out.now) (g.W.Write.contents c.answer_all.new.out))
+          (Appends (g.W.Output.contents c.args.out.now) (g.W.Output.contents c.answer_all.new.out))
           (g.E.Write.contents c.args.err.now) (g.E.Write.contents c.report_all.new.err) (g.E.Write.contents c.answer_all.new.err)
           c.in_err-counts.field-0.0 (reported_as c.deref.result.now c.args.asked.errors.items (g.E.Write.contents c.args.err.now) (g.E.Write.contents c.report_all.new.err) c.deref.ensures.value c.in_ok-reported.ensures.reports.1) h.4,
       λ tree honest. inr (first_of tree c.args.asking.now.world.now.env.now c.args.asked.walk m h.0 h.0 [] h.1 h.2

@@ -10,7 +10,7 @@ use Rattle.ig_commands.proofs.input.why_input.Goals as goal
 
 -- out of memory for the types, it doesn't begin
 pub returns-in_default-clause-ended : goal.returns-in_default-clause-ended
-returns-in_default-clause-ended g c = inr (appends_nothing (g.W.Write.contents c.args.out.now), appends_nothing (g.E.Write.contents c.args.err.now))
+returns-in_default-clause-ended g c = inr (appends_nothing (g.W.Output.contents c.args.out.now), appends_nothing (g.E.Write.contents c.args.err.now))
 
 pub returns-in-Ok-asked_for-clause-answers : goal.returns-in-Ok-asked_for-clause-answers
 returns-in-Ok-asked_for-clause-answers g c =
@@ -53,11 +53,11 @@ returns-in-Err-clause-answers g c =
     refused c.refuse_or_end.result (problem_of e) (RefusesOptions c.args.world.now.env.now c.args.options.now types_at_first) _ _
     (subst (λ (d : Draft). (problem_of e ≡ memory) ⊎ RefusesOptions c.args.world.now.env.now c.args.options.now d (problem_of e)) c.in-Ok.ensures.value c.in-Err.ensures.refused)
     c.refuse_or_end.ensures.enough c.refuse_or_end.ensures.reports
-    (λ status other is h. inr (problem_of e, other, is, appends_nothing (g.W.Write.contents c.args.out.now), h))
+    (λ status other is h. inr (problem_of e, other, is, appends_nothing (g.W.Output.contents c.args.out.now), h))
 
 -- or memory ran out, or they can't be reported
 pub returns-in-Err-clause-ended : goal.returns-in-Err-clause-ended
 returns-in-Err-clause-ended g c =
-    let out = g.W.Write.contents c.args.out.now in
+    let out = g.W.Output.contents c.args.out.now in
     ends_at_once c.refuse_or_end.result out (g.E.Write.contents c.args.err.now) (g.E.Write.contents c.refuse_or_end.new.err)
     c.refuse_or_end.ensures.ended c.refuse_or_end.ensures.kept _ (λ stop h. inr h)

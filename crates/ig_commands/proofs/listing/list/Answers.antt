@@ -3,7 +3,6 @@ use Rattle.std.proofs.lemmas.Result.{IfErr-weaker, IfOk-weaker}
 use Rattle.ignore_base.specs.Problem.{problem_of}
 use Rattle.commands.proofs.LineLemmas.{appends_nothing}
 use Rattle.ig_commands.specs.Listing.{RefusesOptions}
-use Rattle.ig_commands.proofs.AskedLemmas.{is_for}
 use Rattle.ig_commands.proofs.StopLemmas.{ends_at_once, refused}
 use Rattle.ig_commands.proofs.listing.list.Goals as goal
 
@@ -16,9 +15,8 @@ returns-in-Ok-clause-lists g c =
       h.0,
       h.1,
       c.in-Ok.ensures.answered,
-      h.2 (is_for g.F.Files c.args.world.now.files.now c.args.world.now.env.now c.args.options.now c.args.first c.in-Ok.asked.walk
-          c.in-Ok.ensures.answered),
-      λ tree honest. (c.in-Ok.ensures.read tree honest, h.3 tree honest),
+      h.2,
+      c.in-Ok.ensures.read,
     ))
     c.report_and_walk.ensures.lists
 
@@ -31,9 +29,8 @@ returns-in-Ok-clause-ended g c =
       h.0,
       h.1,
       c.in-Ok.ensures.answered,
-      h.2 (is_for g.F.Files c.args.world.now.files.now c.args.world.now.env.now c.args.options.now c.args.first c.in-Ok.asked.walk
-          c.in-Ok.ensures.answered),
-      λ tree honest. (c.in-Ok.ensures.read tree honest, h.3 tree honest),
+      h.2,
+      c.in-Ok.ensures.read,
     ))
     c.report_and_walk.ensures.ended
 
@@ -42,11 +39,11 @@ pub returns-in-Err-clause-lists : goal.returns-in-Err-clause-lists
 returns-in-Err-clause-lists g c =
     let e = c.in-Err.error in
     refused c.refuse_or_end.result (problem_of e) (RefusesOptions c.args.world.now.env.now c.args.options.now c.args.first) _ _ c.in-Err.ensures.refused c.refuse_or_end.ensures.enough c.refuse_or_end.ensures.reports
-    (λ status other is h. inr (problem_of e, other, is, appends_nothing (g.W.Write.contents c.args.out.now), h))
+    (λ status other is h. inr (problem_of e, other, is, appends_nothing (g.W.Output.contents c.args.out.now), h))
 
 -- or memory ran out, or they can't be reported
 pub returns-in-Err-clause-ended : goal.returns-in-Err-clause-ended
 returns-in-Err-clause-ended g c =
-    let out = g.W.Write.contents c.args.out.now in
+    let out = g.W.Output.contents c.args.out.now in
     ends_at_once c.refuse_or_end.result out (g.E.Write.contents c.args.err.now) (g.E.Write.contents c.refuse_or_end.new.err)
     c.refuse_or_end.ensures.ended c.refuse_or_end.ensures.kept _ (λ stop h. inr h)

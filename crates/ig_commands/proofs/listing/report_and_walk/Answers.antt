@@ -23,14 +23,13 @@ returns-clause-lists g c =
           ∙ ap (λ (es : List (Option Error)). counted 0 (map is_known (map (option_map problem_of) es))) c.deref.ensures.value)
           (reported_as c.deref.result.now c.args.asked.errors.items _ _ c.deref.ensures.value c.in_ok-reported.ensures.reports.1) h.1 (search rules) c.in_ok-report_counts.ensures.reports c.status_of.ensures,
       h.2,
-      h.3,
     )
 
 -- the problems of the files that are named can't be reported
 pub returns-in_err-reported-clause-ended : goal.returns-in_err-reported-clause-ended
 returns-in_err-reported-clause-ended g c =
     let p = err_from_is_err_and c.from_residual.result c.from_residual.ensures.1 in
-    rw (p.1, p.2) ([], rw c.in_err-reported.ensures.ended tt, λ so. inl refl, λ tree honest. inl (inl refl))
+    rw (p.1, p.2) ([], rw c.in_err-reported.ensures.ended tt, inl (inl refl))
 
 -- the walk ended early
 pub returns-in_err-counts-clause-ended : goal.returns-in_err-counts-clause-ended
@@ -41,11 +40,10 @@ returns-in_err-counts-clause-ended g c =
     rw (p.1, p.2) (
       h.0,
       ends_after_reports (flat_map (lines_of c.args.options.now) h.0) (flat_map report_of problems) (first_reports c.args.options.now h.0)
-          (Appends (g.W.Write.contents c.args.out.now) (g.W.Write.contents c.walk_and_write.new.out)) (g.E.Write.contents c.args.err.now)
+          (Appends (g.W.Output.contents c.args.out.now) (g.W.Output.contents c.walk_and_write.new.out)) (g.E.Write.contents c.args.err.now)
           (g.E.Write.contents c.report_all.new.err) (g.E.Write.contents c.walk_and_write.new.err) c.in_err-counts.field-0.0
           (reported_as c.deref.result.now c.args.asked.errors.items _ _ c.deref.ensures.value c.in_ok-reported.ensures.reports.1) h.1,
-      h.2,
-      λ tree honest. inl (h.3 tree honest),
+      inl h.2,
     )
 
 -- the counts can't be reported
@@ -53,4 +51,4 @@ pub returns-in_err-report_counts-clause-ended : goal.returns-in_err-report_count
 returns-in_err-report_counts-clause-ended g c =
     let h = c.in_ok-counts.ensures.lists in
     let p = err_from_is_err_and c.from_residual-in_err-report_counts.result c.from_residual-in_err-report_counts.ensures.1 in
-    rw (p.1, p.2) (h.0, rw c.in_err-report_counts.ensures.ended tt, λ so. inr (None, h.2 so), λ tree honest. inr (h.3 tree honest))
+    rw (p.1, p.2) (h.0, rw c.in_err-report_counts.ensures.ended tt, inr h.2)

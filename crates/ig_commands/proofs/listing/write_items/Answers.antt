@@ -16,7 +16,7 @@ use Rattle.ig_commands.proofs.listing.write_items.Goals as goal
 
 pub loop-item-init : goal.loop-item-init
 loop-item-init g c = record {
-  lists = appends_nothing (g.W.Write.contents c.args.out.now);
+  lists = appends_nothing (g.W.Output.contents c.args.out.now);
   reports = appends_nothing (g.E.Write.contents c.args.err.now);
   notes = c.new-met.ensures.folders;
   names = c.new-met.ensures.names;
@@ -53,7 +53,7 @@ returns-in_err-one-clause-ended g c =
       c.next.new.self,
       (l.item-iterator, subst (λ t. Yields g.I.Iterator.next_gives t l.yielded l.item-iterator) c.into_iter-item-iterator.ensures.into_iter_gives l.yielded_by, subst (λ r. g.I.Iterator.next_gives l.item-iterator r c.next.new.self) c.in-Some.is c.next.ensures.steps),
       ends_after (flat_map (lines_of c.args.options.now) (map item_of l.yielded)) (first_reports c.args.options.now (map item_of l.yielded))
-          (g.W.Write.contents c.args.out.now) (g.W.Write.contents l.out) (g.W.Write.contents c.write_item.new.out)
+          (g.W.Output.contents c.args.out.now) (g.W.Output.contents l.out) (g.W.Output.contents c.write_item.new.out)
           (g.E.Write.contents c.args.err.now) (g.E.Write.contents l.err) (g.E.Write.contents c.write_item.new.err)
           c.in_err-one.field-0.0 l.invariant.lists l.invariant.reports c.in_err-one.ensures.ended,
     )

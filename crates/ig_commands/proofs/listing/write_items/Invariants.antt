@@ -12,7 +12,7 @@ use Rattle.ig_commands.proofs.listing.write_items.Given as goal
 -- the items that were yielded are written, reported and noted, and none is out of memory
 abbrev pub invariant-loop-item : goal.invariant-loop-item
 invariant-loop-item g l = record {
-  lists : Appends (g.W.Write.contents l.fn.out) (g.W.Write.contents l.out) (flat_map (lines_of l.options) (map item_of l.yielded));
+  lists : Appends (g.W.Output.contents l.fn.out) (g.W.Output.contents l.out) (flat_map (lines_of l.options) (map item_of l.yielded));
   reports : Appends (g.E.Write.contents l.fn.err) (g.E.Write.contents l.err) (first_reports l.options (map item_of l.yielded));
   notes : (depth : ℕ) → last_in l.met.folders depth ≡ last_at (map item_of l.yielded) depth;
   names : l.met.names ≡ names_left [] None (map item_of l.yielded);

@@ -24,9 +24,9 @@ loop-line-preserved g c =
     let here = c.in_ok-is_left.ensures.writes in
     let text : c.as_str.result.now ≡ string_bytes e.1 = c.as_str.ensures.value in
     let n : c.saturating_add-count.result ≡ one_more l.count c.in_ok-is_left.is_left = search rules in
-    let a = g.W.Write.contents c.args.out.now in
-    let m = g.W.Write.contents l.out in
-    let z = g.W.Write.contents c.write_left.new.out in
+    let a = g.W.Output.contents c.args.out.now in
+    let m = g.W.Output.contents l.out in
+    let z = g.W.Output.contents c.write_left.new.out in
     let is_left = c.in_ok-is_left.is_left in
     let free : is_left ≡ is_free others r =
     subst (λ (t : List ℕ). is_left ≡ is_free others (file_rule source e.0 t)) text here.0 in

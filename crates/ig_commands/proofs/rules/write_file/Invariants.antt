@@ -11,6 +11,6 @@ use Rattle.ig_commands.proofs.rules.write_file.Given as goal
 abbrev pub invariant-loop-line : goal.invariant-loop-line
 invariant-loop-line g l = record {
   counts : l.count ≡ capped (length (left_of l.without.others.now l.source (map deref_pair l.yielded)));
-  writes : Appends (g.W.Write.contents l.fn.out) (g.W.Write.contents l.out)
+  writes : Appends (g.W.Output.contents l.fn.out) (g.W.Output.contents l.out)
       (flat_map (rule_line (option_copied l.without.form.base) l.without.form.null l.without.is_written) (left_of l.without.others.now l.source (map deref_pair l.yielded)));
 }

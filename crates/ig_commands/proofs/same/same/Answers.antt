@@ -10,7 +10,7 @@ use Rattle.ig_commands.proofs.same.same.Goals as goal
 pub returns-in_err-bytes-clause-ended : goal.returns-in_err-bytes-clause-ended
 returns-in_err-bytes-clause-ended g c =
     let p = err_from_is_err_and c.from_residual.result c.from_residual.ensures.1 in
-    let out = g.W.Write.contents c.args.out.now in
+    let out = g.W.Output.contents c.args.out.now in
     let err = g.E.Write.contents c.args.err.now in
     rw (p.1, p.2) (inl (ends_read [] [] (Appends out out) (Appends err err) c.in_err-bytes.field-0.0 c.in_err-bytes.ensures.ended
     (appends_nothing out) (appends_nothing err)))
@@ -18,7 +18,7 @@ returns-in_err-bytes-clause-ended g c =
 -- out of memory for the rules
 pub returns-in_default-clause-ended : goal.returns-in_default-clause-ended
 returns-in_default-clause-ended g c =
-    inl (inl (appends_nothing (g.W.Write.contents c.args.out.now), appends_nothing (g.E.Write.contents c.args.err.now)))
+    inl (inl (appends_nothing (g.W.Output.contents c.args.out.now), appends_nothing (g.E.Write.contents c.args.err.now)))
 
 pub returns-clause-compares : goal.returns-clause-compares
 returns-clause-compares g c =

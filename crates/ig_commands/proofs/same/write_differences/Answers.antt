@@ -6,7 +6,7 @@ use Rattle.ig_commands.proofs.TurnLemmas.{turn_more, turns_end}
 use Rattle.ig_commands.proofs.same.write_differences.Goals as goal
 
 pub loop-difference-init : goal.loop-difference-init
-loop-difference-init g c = appends_nothing (g.W.Write.contents c.args.out.now)
+loop-difference-init g c = appends_nothing (g.W.Output.contents c.args.out.now)
 
 pub loop-difference-preserved : goal.loop-difference-preserved
 loop-difference-preserved g c =

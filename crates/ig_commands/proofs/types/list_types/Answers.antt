@@ -21,7 +21,7 @@ returns-in_ok-write_types-in-Ok-clause-lists g c =
       h.2,
       c.in-Ok.ensures.by_name,
       refl,
-      subst (λ (ds : List Definition). Appends (g.W.Write.contents c.args.out.now) (g.W.Write.contents c.write_types.new.out) (flat_map type_line ds))
+      subst (λ (ds : List Definition). Appends (g.W.Output.contents c.args.out.now) (g.W.Output.contents c.write_types.new.out) (flat_map type_line ds))
           c.deref.ensures.value c.in_ok-write_types-in-Ok.ensures.writes,
       appends_nothing (g.E.Write.contents c.args.err.now),
     )
@@ -31,7 +31,7 @@ pub returns-in_err-write_types-in-Ok-clause-ended : goal.returns-in_err-write_ty
 returns-in_err-write_types-in-Ok-clause-ended g c =
     let p = err_from_is_err_and c.from_residual.result c.from_residual.ensures.1 in
     let err = g.E.Write.contents c.args.err.now in
-    rw (p.1, p.2) (ends_write [] (Appends (g.W.Write.contents c.args.out.now) (g.W.Write.contents c.write_types.new.out)) (Appends err err)
+    rw (p.1, p.2) (ends_write [] (Appends (g.W.Output.contents c.args.out.now) (g.W.Output.contents c.write_types.new.out)) (Appends err err)
     c.in_err-write_types-in-Ok.field-0.0 c.in_err-write_types-in-Ok.ensures.ended (appends_nothing err))
 
 -- the options are rejected
@@ -39,11 +39,11 @@ pub returns-in-Err-clause-lists : goal.returns-in-Err-clause-lists
 returns-in-Err-clause-lists g c =
     let e = c.in-Err.error in
     refused c.refuse_or_end.result (problem_of e) (RefusesDefinitions c.args.options.now.type_add c.args.first) _ _ c.in-Err.ensures.refused c.refuse_or_end.ensures.enough c.refuse_or_end.ensures.reports
-    (λ status other is h. inr (problem_of e, other, is, appends_nothing (g.W.Write.contents c.args.out.now), h))
+    (λ status other is h. inr (problem_of e, other, is, appends_nothing (g.W.Output.contents c.args.out.now), h))
 
 -- or memory ran out, or they can't be reported
 pub returns-in-Err-clause-ended : goal.returns-in-Err-clause-ended
 returns-in-Err-clause-ended g c =
-    let out = g.W.Write.contents c.args.out.now in
+    let out = g.W.Output.contents c.args.out.now in
     ends_at_once c.refuse_or_end.result out (g.E.Write.contents c.args.err.now) (g.E.Write.contents c.refuse_or_end.new.err)
     c.refuse_or_end.ensures.ended c.refuse_or_end.ensures.kept _ (λ stop h. h)

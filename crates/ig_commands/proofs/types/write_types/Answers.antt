@@ -4,7 +4,7 @@ use Rattle.ig_commands.proofs.TurnLemmas.{turn_more, turns_end}
 use Rattle.ig_commands.proofs.types.write_types.Goals as goal
 
 pub loop-definition-init : goal.loop-definition-init
-loop-definition-init g c = appends_nothing (g.W.Write.contents c.args.out.now)
+loop-definition-init g c = appends_nothing (g.W.Output.contents c.args.out.now)
 
 pub loop-definition-preserved : goal.loop-definition-preserved
 loop-definition-preserved g c =

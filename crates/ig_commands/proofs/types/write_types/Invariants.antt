@@ -7,4 +7,4 @@ use Rattle.ig_commands.proofs.types.write_types.Given as goal
 -- the types so far are written
 abbrev pub invariant-loop-definition : goal.invariant-loop-definition
 invariant-loop-definition g l =
-    Appends (g.W.Write.contents l.fn.out) (g.W.Write.contents l.out) (flat_map type_line (take l.definition-index l.definitions))
+    Appends (g.W.Output.contents l.fn.out) (g.W.Output.contents l.out) (flat_map type_line (take l.definition-index l.definitions))

@@ -9,9 +9,8 @@ use Rattle.ignore_dir.specs.Scene.{scene}
 use Rattle.ignore_why.specs.Cited.{Named}
 use Rattle.ig_commands.specs.Counts.{counted}
 use Rattle.ig_commands.specs.Found.{Finds, deciding, met, read_in}
-use Rattle.ig_commands.specs.Listing.{GoesBy}
 use Rattle.ig_commands.specs.Reports.{report_of}
-use Rattle.ig_commands.specs.Surveys.{IsBegun, OfRoot, all_seen, all_told, begun_told, is_wrong}
+use Rattle.ig_commands.specs.Surveys.{AreRootsBy, IsBegun, OfRoot, all_seen, all_told, begun_told, is_wrong}
 use Rattle.ig_commands.proofs.EndLemmas.{ends_out, ends_write}
 use Rattle.ig_commands.proofs.GrowLemmas.{grown_at}
 use Rattle.ig_commands.proofs.ReportLemmas.{counts_told, reported_as, status_as, wrong_as}
@@ -32,7 +31,7 @@ returns-in_default-clause-ended g c = (
   [],
   false,
   (
-    appends_nothing (g.W.Write.contents c.args.out.now),
+    appends_nothing (g.W.Output.contents c.args.out.now),
     subst (Appends (g.E.Write.contents c.args.err.now) (g.E.Write.contents c.report_all.new.err))
         (sym (append-nil (flat_map report_of (map (option_map problem_of) c.args.asked.errors.items))))
         (reported_as c.deref.result.now c.args.asked.errors.items (g.E.Write.contents c.args.err.now) (g.E.Write.contents c.report_all.new.err) c.deref.ensures.value c.in_ok-reported.ensures.reports.1),
@@ -45,7 +44,7 @@ returns-in_err-more-clause-ended g c =
     let h = c.in_err-more.ensures.ended in
     let all = met h.0 ++ h.1 ∷ [] in
     let o = c.args.options.now in
-    let out = g.W.Write.contents c.args.out.now in
+    let out = g.W.Output.contents c.args.out.now in
     let p = err_from_is_err_and c.from_residual-in_err-more.result c.from_residual-in_err-more.ensures.1 in
     rw (p.1, p.2) (
       all,
@@ -68,7 +67,7 @@ returns-in_err-more-clause-ended g c =
             begun.0,
             refl,
             begun.1,
-            subst (λ (ps : List _). GoesBy tree c.args.world.now.env.now o c.args.asked.walk (ps ++ h.1.0 ∷ begun.0) begun.1) (names_met h.0) begun.2,
+            subst (λ (ps : List _). AreRootsBy tree c.args.world.now.env.now o c.args.asked.walk (ps ++ h.1.0 ∷ begun.0) begun.1) (names_met h.0) begun.2,
             λ loads are.
                 let facts = begun.3 loads are in
                 (whole_met (λ root. scene tree loads c.args.asked.walk.settings begun.1 root) h.0 facts.0, facts.1),
@@ -86,7 +85,7 @@ returns-in_err-unused-clause-ended g c =
       met h.0,
       true,
       ends_write (flat_map report_of problems ++ all_told o (met h.0))
-          (Appends (g.W.Write.contents c.args.out.now) (g.W.Write.contents c.write_without.new.out))
+          (Appends (g.W.Output.contents c.args.out.now) (g.W.Output.contents c.write_without.new.out))
           (Appends (g.E.Write.contents c.args.err.now) (g.E.Write.contents c.find_all.new.err)) c.in_err-unused.field-0.0 c.in_err-unused.ensures.ended
           (appends_on (g.E.Write.contents c.args.err.now) (g.E.Write.contents c.report_all.new.err) (g.E.Write.contents c.find_all.new.err)
           (flat_map report_of problems) (all_told o (met h.0))
@@ -97,7 +96,7 @@ returns-in_err-unused-clause-ended g c =
           tree c.args.world.now.env.now o c.args.asked.walk honest none made.0
           made.1 c.in-Ok.matchers.items made.2 c.in-Ok.ensures.empty h.0 h.1 in (
             roots.0,
-            subst (λ (ps : List _). GoesBy tree c.args.world.now.env.now o c.args.asked.walk ps roots.0) (names_met h.0) roots.1,
+            subst (λ (ps : List _). AreRootsBy tree c.args.world.now.env.now o c.args.asked.walk ps roots.0) (names_met h.0) roots.1,
             λ loads are. whole_met (λ root. scene tree loads c.args.asked.walk.settings roots.0 root) h.0 (roots.2 loads are),
           ),
     )
@@ -120,7 +119,7 @@ returns-clause-lists g c =
       met h.0,
       w.0,
       record {
-        writes = written_as o w.0 _ _ (g.W.Write.contents c.args.out.now) (g.W.Write.contents c.write_without.new.out) c.form_of.ensures.base c.form_of.ensures.null w.3;
+        writes = written_as o w.0 _ _ (g.W.Output.contents c.args.out.now) (g.W.Output.contents c.write_without.new.out) c.form_of.ensures.base c.form_of.ensures.null w.3;
         reports = counts_told o.stats (flat_map report_of problems ++ all_told o (met h.0)) _ _ _ _ (g.E.Write.contents c.args.err.now)
             (g.E.Write.contents c.find_all.new.err) (g.E.Write.contents c.report_counts.new.err)
             (appends_on (g.E.Write.contents c.args.err.now) (g.E.Write.contents c.report_all.new.err) (g.E.Write.contents c.find_all.new.err) (flat_map report_of problems) (all_told o (met h.0))
@@ -134,7 +133,7 @@ returns-clause-lists g c =
           tree c.args.world.now.env.now o c.args.asked.walk honest none made.0
           made.1 c.in-Ok.matchers.items made.2 c.in-Ok.ensures.empty h.0 h.1 in (
             roots.0,
-            subst (λ (ps : List _). GoesBy tree c.args.world.now.env.now o c.args.asked.walk ps roots.0) (names_met h.0) roots.1,
+            subst (λ (ps : List _). AreRootsBy tree c.args.world.now.env.now o c.args.asked.walk ps roots.0) (names_met h.0) roots.1,
             λ loads are.
                 let at = λ (root : List _). scene tree loads c.args.asked.walk.settings roots.0 root in (
                   whole_met at h.0 (roots.2 loads are),

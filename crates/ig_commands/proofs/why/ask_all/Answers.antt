@@ -21,7 +21,7 @@ pub loop-given-init : goal.loop-given-init
 loop-given-init g c = record {
   answers = (
     [],
-    appends_nothing (g.W.Write.contents c.args.out.now),
+    appends_nothing (g.W.Output.contents c.args.out.now),
     appends_nothing (g.E.Write.contents c.args.err.now),
     c.begun-counts.ensures.reported,
     c.begun-counts.ensures.found,
@@ -58,7 +58,7 @@ loop-given-preserved g c =
       answers = (
         so.0 ++ one ∷ [],
         text_more (written c.args.options.now (string_bytes first.asked.root)) so.0 one _ _ _ so.1
-            (subst (λ r. Appends (g.W.Write.contents l.out) (g.W.Write.contents c.write_said.new.out) (written c.args.options.now r one)) root
+            (subst (λ r. Appends (g.W.Output.contents l.out) (g.W.Output.contents c.write_said.new.out) (written c.args.options.now r one)) root
             c.in_ok-write_said.ensures.writes),
         text_more (reports c.args.options.now (string_bytes first.asked.root)) so.0 one _ _ _ so.2
             (subst (λ r. Appends (g.E.Write.contents l.err) (g.E.Write.contents c.write_said.new.err) (reports c.args.options.now r one)) root
@@ -120,7 +120,7 @@ returns-in_err-write_said-clause-ended g c =
       drop l.given-index all,
       l.matcher.cache,
       ends_after (flat_map (written c.args.options.now root) so.0) (flat_map (reports c.args.options.now root) so.0)
-          (g.W.Write.contents c.args.out.now) (g.W.Write.contents l.out) (g.W.Write.contents c.write_said.new.out)
+          (g.W.Output.contents c.args.out.now) (g.W.Output.contents l.out) (g.W.Output.contents c.write_said.new.out)
           (g.E.Write.contents c.args.err.now) (g.E.Write.contents l.err) (g.E.Write.contents c.write_said.new.err)
           c.in_err-write_said.field-0.0 so.1 so.2 c.in_err-write_said.ensures.ended,
       sym c.deref-given-items.ensures.value ∙ sym (take-append-drop l.given-index all),

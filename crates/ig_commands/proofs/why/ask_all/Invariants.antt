@@ -15,7 +15,7 @@ use Rattle.ig_commands.proofs.why.ask_all.Given as goal
 abbrev pub invariant-loop-given : goal.invariant-loop-given
 invariant-loop-given g l = record {
   answers : (said : List Said)
-      × Appends (g.W.Write.contents l.fn.out) (g.W.Write.contents l.out) (flat_map (written l.options (string_bytes l.fn.matcher.asked.root)) said)
+      × Appends (g.W.Output.contents l.fn.out) (g.W.Output.contents l.out) (flat_map (written l.options (string_bytes l.fn.matcher.asked.root)) said)
       × Appends (g.E.Write.contents l.fn.err) (g.E.Write.contents l.err) (flat_map (reports l.options (string_bytes l.fn.matcher.asked.root)) said)
       × (l.counts.reported ≡ counted 0 (map (is_wrong l.options) said)) × (l.counts.found ≡ counted 0 (map is_found said))
       × ((tree : Tree) (loads : List ℕ → Loaded) → IsHonest g.F.Files l.world.files.now tree

@@ -24,7 +24,7 @@ returns-in_default-clause-ended g c = (
   [],
   [],
   (
-    appends_nothing (g.W.Write.contents c.args.out.now),
+    appends_nothing (g.W.Output.contents c.args.out.now),
     subst (Appends (g.E.Write.contents c.args.err.now) (g.E.Write.contents c.report_all.new.err))
         (sym (append-nil (flat_map report_of (map (option_map problem_of) c.args.asked.errors.items))))
         (reported_as c.deref.result.now c.args.asked.errors.items (g.E.Write.contents c.args.err.now) (g.E.Write.contents c.report_all.new.err) c.deref.ensures.value c.in_ok-reported.ensures.reports.1),
@@ -43,7 +43,7 @@ returns-in_err-counts-clause-ended g c =
       h.0,
       ends_after_reports (flat_map (written c.args.options.now root) h.0)
           (flat_map report_of (map (option_map problem_of) c.args.asked.errors.items)) (flat_map (reports c.args.options.now root) h.0)
-          (Appends (g.W.Write.contents c.args.out.now) (g.W.Write.contents c.ask_all.new.out))
+          (Appends (g.W.Output.contents c.args.out.now) (g.W.Output.contents c.ask_all.new.out))
           (g.E.Write.contents c.args.err.now) (g.E.Write.contents c.report_all.new.err) (g.E.Write.contents c.ask_all.new.err)
           c.in_err-counts.field-0.0 (reported_as c.deref.result.now c.args.asked.errors.items (g.E.Write.contents c.args.err.now) (g.E.Write.contents c.report_all.new.err) c.deref.ensures.value c.in_ok-reported.ensures.reports.1) h.4,
       λ tree honest. inr (first_of tree c.args.world.now.env.now c.args.asked.walk m c.args.options.now.paths.items h.1 h.2 h.0 h.3

@@ -1,6 +1,6 @@
 use Rattle.std.proofs.Common.{refl}
 use Rattle.ignore_walk.specs.Suits.{order_by}
-use Rattle.ignore.specs.Closures.{order_of}
+use Rattle.ignore.specs.Closures.{chosen_order, order_of}
 use Rattle.ignore.proofs.SceneLemmas.{compares_by, filters_by}
 use Rattle.ignore.proofs.walk_laws.a_scene_with_closures.Goals as goal
 
@@ -15,7 +15,7 @@ returns g c = λ tree outside keep cmp weak compares filters.
         outside = outside;
         same_file_system = b.options.same_file_system;
         keep = keep;
-        order = order_by (order_of (λ s. s.order) b.sorter) cmp;
+        order = order_by (chosen_order b.options (order_of (λ s. s.order) b.sorter)) cmp;
       },
       record {
         tree = refl;

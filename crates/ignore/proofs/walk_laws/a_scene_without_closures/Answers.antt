@@ -1,5 +1,9 @@
-use Rattle.std.proofs.Common.{true, None, refl}
-use Rattle.std.specs.declared.cmp.Ordering.TheVariants.{Equal}
+use Rattle.std.proofs.Common.{true, refl}
+use Rattle.std.proofs.lemmas.Cmp.{nat_list_cmp_total}
+use Rattle.std.proofs.lemmas.List.MinMax.{ranks_by}
+use Rattle.std.specs.Cmp.Lexicographic.{slice_cmp}
+use Rattle.std.specs.Ordering.{nat_cmp}
+use Rattle.ignore_walk.specs.Suits.{order_by}
 use Rattle.ignore.proofs.walk_laws.a_scene_without_closures.Goals as goal
 
 pub returns : goal.returns
@@ -13,7 +17,7 @@ returns g c = λ tree outside plain none.
         outside = outside;
         same_file_system = b.options.same_file_system;
         keep = λ _. true;
-        order = None;
+        order = order_by b.options.order (slice_cmp nat_cmp);
       },
       record {
         tree = refl;
@@ -22,6 +26,6 @@ returns g c = λ tree outside plain none.
         outside = refl;
         device = refl;
         filter = rw none (λ e. refl);
-        sorted = rw plain (λ _ _. Equal, λ _ _. refl, record { one_way = λ x y is. refl; chain = λ x y z a b. refl }, refl);
+        sorted = rw plain (slice_cmp nat_cmp, λ a b. refl, ranks_by nat_list_cmp_total (λ name. name), refl);
       },
     )

@@ -2,8 +2,8 @@ use Rattle.std.proofs.Common.{◌≢◌, Option, Some, sym, subst, ◌∙◌}
 use Rattle.ignore_levels.specs.Levels.{slots_of}
 use Rattle.ignore_levels.specs.declared.list.Place.{Place}
 use Rattle.ignore_levels.proofs.PassLemmas.{keeps-then, passes-kept}
-use Rattle.ignore_guide.specs.Guide.{Owns}
-use Rattle.ignore_guide.specs.Guide.Owns.{first}
+use Rattle.ignore_guide.specs.Forest.{Owns}
+use Rattle.ignore_guide.specs.Forest.Owns.{first}
 use Rattle.ignore_guide.proofs.FreeLemmas.{owns-kept, owns-step}
 use Rattle.ignore_guide.proofs.free.free_down.Goals as goal
 

@@ -2,7 +2,7 @@ use Rattle.std.proofs.Common.{List, Option}
 use Rattle.ignore_dir.specs.Lists.{Placed}
 use Rattle.ignore_levels.specs.Levels.{IsChain, Keeps, Passes, slots_of}
 use Rattle.ignore_levels.specs.declared.list.Place.{Place}
-use Rattle.ignore_guide.specs.Guide.{Owns}
+use Rattle.ignore_guide.specs.Forest.{Owns}
 use Rattle.ignore_guide.proofs.free.free_down.Given as goal
 
 abbrev pub invariant-loop-step : goal.invariant-loop-step

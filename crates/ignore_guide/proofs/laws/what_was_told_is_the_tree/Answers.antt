@@ -1,6 +1,6 @@
 use Rattle.std.proofs.Common.{refl}
 use Rattle.ignore_guide.proofs.ToldLemmas.{answers-from, loads-are, nothing-told, stat-told}
-use Rattle.std.specs.BTreeMap.{get_by_text}
+use Rattle.ignore_guide.specs.Answers.{answer_at}
 use Rattle.ignore_guide.proofs.laws.what_was_told_is_the_tree.Goals as goal
 
 pub returns-clause-honest : goal.returns-clause-honest
@@ -9,8 +9,8 @@ returns-clause-honest c = λ tree are.
     record {
       stat = λ path follow r h. stat-told tree told are path follow r h;
       list = λ path r h. nothing-told _ r h;
-      contents = λ path r h. answers-from (get_by_text told.reads path) (tree.contents path) r (are.reads path) h;
-      canonical = λ path r h. answers-from (get_by_text told.paths path) (tree.canonical path) r (are.paths path) h;
+      contents = λ path r h. answers-from (answer_at told.reads.list.items path) (tree.contents path) r (are.reads path) h;
+      canonical = λ path r h. answers-from (answer_at told.paths.list.items path) (tree.canonical path) r (are.paths path) h;
       identity = λ path follow r h. nothing-told _ r h;
     }
 

@@ -5,4 +5,4 @@ use Rattle.ignore_kept.proofs.entering.leave_in.Goals as goal
 pub returns-in-Ok : goal.returns-in-Ok
 returns-in-Ok c =
     let e = c.in-Ok.ensures in
-    (c.leave.new.self, refl, sym c.is_some.ensures ∙ c.if-is_some.false, e.there, e.gone, e.kept, e.others, e.same)
+    (c.leave.new.self, refl, sym c.is_some.ensures ∙ c.if-is_some.false, e.there, e.gone, e.stay, e.kept, e.others, e.same)

@@ -5,4 +5,4 @@ use Rattle.ignore_kept.proofs.entering.step_of_root.Goals as goal
 pub returns-in_err-step-clause-ends : goal.returns-in_err-step-clause-ends
 returns-in_err-step-clause-ends c = λ idle.
     let e = c.in_err-step.ensures in
-    on_err _ _ (ends_step c.args.begun.now c.ask_root.new.self e.kept e.gone e.same idle)
+    on_err _ _ (ends_step c.args.begun.now c.ask_root.new.self e.as_before e.kept e.gone e.same idle)

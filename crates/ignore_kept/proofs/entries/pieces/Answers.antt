@@ -1,10 +1,16 @@
--- The texts between the zeros of a text.
-use Rattle.std.proofs.Common.{lit<}
-use Rattle.std.proofs.lemmas.Iterator.Consumers.{map_from_collect}
-use Rattle.std.proofs.lemmas.Iterator.Splits.{YieldsList-from_str_split}
+-- A text is cut at its zeros, one at a time.
+use Rattle.std.proofs.Common.{arith, refl, rules}
+use Rattle.ignore_kept.proofs.Cutting.{piece_more}
 use Rattle.ignore_kept.proofs.entries.pieces.Goals as goal
 
-pub returns : goal.returns
-returns c =
-    map_from_collect _ c.collect.ensures.ran
-    (YieldsList-from_str_split 0 c.args.text.now (lit< tt) c.split.ensures.text c.split.ensures.has_more c.split.ensures.pattern)
+pub loop-piece-preserved : goal.loop-piece-preserved
+loop-piece-preserved c =
+    let l = c.loop-piece in
+    record {
+      so = piece_more c.args.text.now l.rest.now c.in-Some.piece.now c.in-Some.after.now l.all.items c.push.new.self.items c.in-Some.piece refl
+          l.invariant.so c.in-Some.ensures.0 c.in_ok-push.ensures.items;
+      text = search rules;
+    }
+
+pub loop-piece-smaller : goal.loop-piece-smaller
+loop-piece-smaller c = omega (arith, c.in-Some.ensures.1)

@@ -26,9 +26,9 @@ loop-source-preserved g c =
     let here = c.in_ok-more.ensures.writes in
     let text : c.as_str.result.now ≡ string_bytes e.0 = c.as_str.ensures.value in
     let n : c.saturating_add-count.result ≡ capped (l.count + c.in_ok-more.more) = search rules in
-    let a = g.W.Write.contents c.args.out.now in
-    let m = g.W.Write.contents l.out in
-    let z = g.W.Write.contents c.write_file.new.out in
+    let a = g.W.Output.contents c.args.out.now in
+    let m = g.W.Output.contents l.out in
+    let z = g.W.Output.contents c.write_file.new.out in
     let rest = left_of others (string_bytes e.0) e.1.entries in
     let more : c.in_ok-more.more ≡ capped (length rest) =
     subst (λ (t : List ℕ). c.in_ok-more.more ≡ capped (length (left_of others t e.1.entries))) text here.0 in

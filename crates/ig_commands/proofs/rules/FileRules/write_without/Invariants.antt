@@ -13,7 +13,7 @@ use Rattle.ig_commands.proofs.rules.FileRules.write_without.Given as goal
 abbrev pub invariant-loop-source : goal.invariant-loop-source
 invariant-loop-source g l = record {
   counts : l.count ≡ capped (length (all_left l.others.others.now (map deref_pair l.yielded)));
-  writes : Appends (g.W.Write.contents l.fn.out) (g.W.Write.contents l.out)
+  writes : Appends (g.W.Output.contents l.fn.out) (g.W.Output.contents l.out)
       (flat_map (rule_line (option_copied l.others.form.base) l.others.form.null l.others.is_written) (all_left l.others.others.now (map deref_pair l.yielded)));
   ordered : All (λ e. IsOrdered nat_cmp e.1) (map deref_pair l.yielded);
 }
