@@ -85,8 +85,8 @@ char *disk_own(const char *told, size_t length) {
         own[to] = is_byte ? (char)((here[1] << 6 & 0xff) | (here[2] & 0x3f)) : told[at];
         at += is_byte ? 3 : 1;
     }
-    if (own)
-        own[to] = 0;
+    if (own) /* (no path has a zero: nothing is at the empty one) */
+        own[memchr(told, 0, length) ? 0 : to] = 0;
     return own;
 }
 
@@ -141,18 +141,18 @@ static uint32_t fault_of(int error) {
          : error == ELOOP   ? IGNORE_FAULT_LINK_LIMIT : IGNORE_FAULT_OTHER;
 }
 
-/* Reads a file: 0, or the errno that ended it. */
+/* Reads a file, unless a pipe or a device is there by now: 0, or the errno that ended it. */
 static int read_file(const char *path, bytes *to) {
-    int fd = openat(AT_FDCWD, path, O_RDONLY | O_CLOEXEC | O_NONBLOCK), error = 0;
-    for (ssize_t count = 1; fd >= 0 && count && !error;) {
-        bool has = more(to, 4096);
-        count = has ? read(fd, to->at + to->length, to->room - to->length) : -1;
+    struct stat found;
+    int fd = openat(AT_FDCWD, path, O_RDONLY | O_CLOEXEC | O_NONBLOCK);
+    int error = fd < 0 || fstat(fd, &found) ? errno : S_ISREG(found.st_mode) ? 0 : EISDIR;
+    for (ssize_t count = 1; count && !error;) {
+        count = more(to, 4096) ? read(fd, to->at + to->length, to->room - to->length) : -1;
         to->length += count > 0 ? (size_t)count : 0;
         error = count < 0 && errno != EINTR ? errno : 0;
     }
-    if (fd >= 0)
-        close(fd);
-    return fd < 0 ? errno : error;
+    close(fd);
+    return error;
 }
 
 static int read_canonical(const char *path, bytes *to) {

@@ -30,7 +30,8 @@ int disk_list(const char *path, int wants, disk_listing *listing);
 void disk_listing_free(disk_listing *listing);
 
 /* A text of the disk as the library is told it, and back: each is ended by a zero, in memory of
-   malloc; null where there is none. */
+   malloc; null where there is none. A text with a zero, which no path of the disk has, is the empty
+   path. */
 char *disk_told(const char *own);
 char *disk_own(const char *told, size_t length);
 

@@ -1,12 +1,17 @@
 /* Hosts of a guide that keep the header's rules of memory and no other: they answer wrongly, too
    seldom, too often, by halves, for another question, and call in any order by any place. Each call
    must end, answer what the header has, and leave the places as they are. Then many directories are
-   entered and left, by which the process must not grow; and what disk.c tells of names is as disk.h
-   says. hosts [CALLS DIRECTORIES] */
+   entered and left, by which the process must not grow; what disk.c tells of names is as disk.h says,
+   and it reads no pipe. hosts [CALLS DIRECTORIES] */
+#define _GNU_SOURCE
 #include "disk.h"
 #include "failing.h"
 
+#include <fcntl.h>
 #include <sys/resource.h>
+#include <sys/stat.h>
+#include <sys/syscall.h>
+#include <unistd.h>
 
 #define MANY 24
 
@@ -193,12 +198,47 @@ static void names_of_the_disk(void) {
     free(plain);
 }
 
+/* For disk.c: what is named `.ignore` is a file when it is asked for, whatever it is after that. */
+int fstatat(int dir, const char *path, struct stat *found, int flags) {
+    int code = (int)syscall(SYS_newfstatat, dir, path, found, flags);
+    if (!code && strstr(path, ".ignore"))
+        found->st_mode = S_IFREG;
+    return code;
+}
+
+/* A file of rules that becomes a pipe before it is read, and one whose name has a zero inside: there
+   is none, also where a file has the name before the zero. */
+static void files_that_are_none(void) {
+    char folder[] = "/tmp/hosts-XXXXXX", pipe_path[64], file[64];
+    ignore_builder builder;
+    ignore_guide guide;
+    ignore_place place;
+    ignore_found found;
+    HOLDS(mkdtemp(folder) != NULL);
+    snprintf(pipe_path, sizeof pipe_path, "%s/.ignore", folder);
+    snprintf(file, sizeof file, "%s/a", folder);
+    FILE *rules = fopen(file, "w");
+    HOLDS(rules && fputs("*.o", rules) >= 0 && !fclose(rules) && !mkfifo(pipe_path, 0600));
+    int pipe_end = open(pipe_path, O_RDWR);
+    HOLDS(write(pipe_end, "*.o\n", 4) == 4);
+    CALL(IGNORE_OK, ignore_builder_new(TEXT(""), &builder));
+    CALL(IGNORE_OK, ignore_builder_add_custom_ignore_filename(&builder, BYTES("a\0b")));
+    CALL(IGNORE_OK, ignore_guide_new(&builder, &guide));
+    ignore_builder_free(builder);
+    uint32_t begun = ignore_guide_root(&guide, TEXT(folder), &place);
+    CALL(IGNORE_OK, disk_answer(&guide, begun, &place));
+    CALL(IGNORE_NONE, ignore_guide_decide(&guide, &place, TEXT("x.o"), false, 0, &found));
+    ignore_guide_free(guide);
+    HOLDS(!close(pipe_end) && !unlink(pipe_path) && !unlink(file) && !rmdir(folder));
+}
+
 int main(int count, char **words) {
     size_t calls = count > 1 ? strtoull(words[1], NULL, 10) : 300000;
     for (size_t i = 0; i < 100; i++)
         seed = i * 77 + 1, anything(calls / 100);
     many_directories(count > 2 ? strtoull(words[2], NULL, 10) : 100000);
     names_of_the_disk();
+    files_that_are_none();
     printf("%lu wrong answers\n", wrong);
     return wrong > 0;
 }

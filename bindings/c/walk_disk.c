@@ -69,15 +69,20 @@ static void done(uint32_t code) {
     }
 }
 
-/* What is wrong with the files of rules of the directory that was entered last. */
+/* What is wrong with the files of rules of the directory that was entered last; of more than a
+   hundred parts the first, since each is looked for from the first one on. */
 static void tell_problems(void) {
     ignore_problem part;
     uint8_t texts[4096];
-    for (size_t i = 0; ignore_guide_problem(&guide, i, &part, texts, sizeof texts) == IGNORE_OK; i++)
+    for (size_t i = 0; i < 100; i++) {
+        if (ignore_guide_problem(&guide, i, &part, texts, sizeof texts) != IGNORE_OK)
+            return;
         if (part.path + part.glob + part.text <= sizeof texts)
             fprintf(stderr, "%.*s: line %llu: %.*s %.*s\n", (int)part.path, texts,
                     (unsigned long long)part.line, (int)part.text, texts + part.path + part.glob,
                     (int)part.glob, texts + part.path);
+    }
+    fputs("more may be wrong with it\n", stderr);
 }
 
 /* Whether a link at the path leads to a directory that it is in. */

@@ -274,6 +274,19 @@ fn glob_of(reason: &Reason, room: &[u8], added: &Added) -> Glob {
     }
 }
 
+/// The text of a file: the whole lines before what can't be read of it, and what is wrong there.
+pub(crate) fn file_text(path: &Path) -> Result<(Vec<u8>, Option<Error>), Error> {
+    let mut file = File::open(path).map_err(|error| Error::Io(error).with_path(path))?;
+    let mut text = Vec::new();
+    let Err(error) = file.read_to_end(&mut text) else {
+        return Ok((text, None));
+    };
+    let last = text.iter().rposition(|&byte| byte == b'\n');
+    text.truncate(last.map_or(0, |at| at + 1));
+    let lines = text.iter().filter(|&&byte| byte == b'\n').count() as u64;
+    Ok((text, Some(Error::Io(error).in_line(path, lines + 1))))
+}
+
 /// Builds rules of lines and files.
 #[derive(Debug)]
 pub struct GitignoreBuilder {
@@ -359,23 +372,13 @@ impl GitignoreBuilder {
     /// Adds the lines of a file. What is wrong with it is returned, and the other lines are added.
     pub fn add<P: AsRef<Path>>(&mut self, path: P) -> Option<Error> {
         let path = path.as_ref();
-        let mut file = match File::open(path) {
-            Ok(file) => file,
-            Err(error) => return Some(Error::Io(error).with_path(path)),
+        let (text, stopped) = match file_text(path) {
+            Ok(found) => found,
+            Err(error) => return Some(error),
         };
-        let mut text = Vec::new();
-        let stopped = file.read_to_end(&mut text).err();
-        if stopped.is_some() {
-            let whole = text
-                .iter()
-                .rposition(|&byte| byte == b'\n')
-                .map_or(0, |at| at + 1);
-            text.truncate(whole);
-        }
-        let lines = text.iter().filter(|&&byte| byte == b'\n').count() as u64;
         let mut errors = Errors::default();
         self.add_text(path, &text, &mut errors);
-        errors.add(stopped.map(|error| Error::Io(error).in_line(path, lines + 1)));
+        errors.add(stopped);
         errors.into_error()
     }
 

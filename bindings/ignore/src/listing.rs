@@ -58,16 +58,23 @@ impl Listing {
             rest: Some(fs::read_dir(path)?),
             ..Listing::default()
         };
-        listing.fill();
+        listing.fill(TOGETHER);
         Ok(listing)
     }
 
-    /// Reads on, in place of what was read before.
-    fn fill(&mut self) {
-        self.told.clear();
-        self.items.clear();
-        (self.own, self.at) = (None, Cursor::default());
-        while self.items.len() < TOGETHER {
+    /// Whether the directory is open, since there may be more in it than was read.
+    pub(crate) fn is_open(&self) -> bool {
+        self.rest.is_some()
+    }
+
+    /// Reads on to the end.
+    pub(crate) fn read_rest(&mut self) {
+        self.fill(usize::MAX);
+    }
+
+    /// Reads on, until there are so many.
+    fn fill(&mut self, most: usize) {
+        while self.items.len() < most {
             match self.rest.as_mut().and_then(Iterator::next) {
                 Some(Ok(entry)) => self.add(&entry),
                 Some(Err(error)) => self.errors.insert(0, error),
@@ -118,7 +125,10 @@ impl Listing {
     /// The next entry, of which the name stands until the one after it.
     pub(crate) fn next(&mut self) -> Option<Listed> {
         if self.at.index == self.items.len() && self.rest.is_some() {
-            self.fill();
+            self.told.clear();
+            self.items.clear();
+            (self.own, self.at) = (None, Cursor::default());
+            self.fill(TOGETHER);
         }
         let at = self.at;
         let item = self.items.get(at.index)?;

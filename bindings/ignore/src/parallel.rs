@@ -2,7 +2,8 @@
 //!
 //! What is to be done stands on a stack that all threads share: directories to be entered, and
 //! entries to be visited. Work that was put there and isn't done yet is counted; the walk ends when
-//! there is none, or when a visitor says so. A thread that has nothing to do sleeps.
+//! there is none, or when a visitor says so. A thread that has nothing to do takes half of the
+//! entries that another took and hasn't begun with, or else sleeps.
 
 use crate::decide::{Answers, Asked, Begun, Guide, Place, Plan};
 use crate::entry::{identity, DirEntry, Follows, Identity};
@@ -117,11 +118,21 @@ enum Work {
     Root(Arc<Root>, DirEntry),
     /// A directory to be entered.
     Folder(Arc<Folder>, DirEntry),
-    /// Entries to be visited.
+    /// Entries to be visited, from the last one on.
     Entries(Vec<DirEntry>),
+    /// Those that the thread took.
+    Taken,
 }
 
-/// So many entries are visited by the thread that takes them.
+impl Work {
+    /// Entries to be visited in this order.
+    fn entries(mut entries: Vec<DirEntry>) -> Work {
+        entries.reverse();
+        Work::Entries(entries)
+    }
+}
+
+/// So many entries are taken at once.
 const TOGETHER: usize = 16;
 
 /// So much of one directory is put on the stack at once.
@@ -130,8 +141,10 @@ const AT_ONCE: usize = 64;
 #[derive(Default)]
 struct State {
     stack: Vec<Work>,
-    /// How much was put on the stack and isn't done.
+    /// How much was taken from the stack, or is there, and isn't done.
     open: usize,
+    /// How many threads sleep.
+    idle: usize,
 }
 
 #[derive(Default)]
@@ -139,11 +152,50 @@ struct Shared {
     state: Mutex<State>,
     changed: Condvar,
     is_over: AtomicBool,
+    /// The entries that each thread took, and hasn't begun with, from the last one on. They are put
+    /// here by who has the state, so a thread that finds none sleeps until there are some.
+    taken: Vec<Mutex<Vec<DirEntry>>>,
 }
 
 impl Shared {
+    fn of(threads: usize) -> Shared {
+        Shared {
+            taken: (0..threads).map(|_| Mutex::default()).collect(),
+            ..Shared::default()
+        }
+    }
+
     fn state(&self) -> MutexGuard<'_, State> {
         self.state.lock().unwrap_or_else(PoisonError::into_inner)
+    }
+
+    fn taken(&self, thread: usize) -> MutexGuard<'_, Vec<DirEntry>> {
+        self.taken[thread]
+            .lock()
+            .unwrap_or_else(PoisonError::into_inner)
+    }
+
+    /// Half of what another thread took, at least one entry, from the last one on.
+    fn half(&self, thread: usize) -> Option<Vec<DirEntry>> {
+        let others = (0..self.taken.len()).filter(|&it| it != thread);
+        others.map(|it| self.taken(it)).find_map(|mut taken| {
+            let half = taken.len() - taken.len() / 2;
+            (half > 0).then(|| taken.drain(..half).collect())
+        })
+    }
+
+    /// Puts the entries of work where other threads may take some of them.
+    fn laid_out(&self, thread: usize, work: Work, state: &State) -> Work {
+        match work {
+            Work::Entries(entries) => {
+                if entries.len() > 1 && state.idle > 0 && state.stack.is_empty() {
+                    self.changed.notify_one();
+                }
+                *self.taken(thread) = entries;
+                Work::Taken
+            }
+            work => work,
+        }
     }
 
     fn put(&self, work: impl ExactSizeIterator<Item = Work>) {
@@ -161,23 +213,30 @@ impl Shared {
         }
     }
 
-    /// The next work, for which a thread sleeps; `None` at the end.
-    fn next(&self) -> Option<(Work, Open<'_>)> {
+    /// The next work of a thread, for which it sleeps; `None` at the end.
+    fn next(&self, thread: usize) -> Option<(Work, Open<'_>)> {
         let mut state = self.state();
         loop {
             if self.is_over() {
                 return None;
             }
-            if let Some(work) = state.stack.pop() {
-                return Some((work, Open(self)));
+            let work = state.stack.pop().or_else(|| {
+                let entries = self.half(thread)?;
+                state.open += 1;
+                Some(Work::Entries(entries))
+            });
+            if let Some(work) = work {
+                return Some((self.laid_out(thread, work, &state), Open(self)));
             }
             if state.open == 0 {
                 return None;
             }
+            state.idle += 1;
             state = self
                 .changed
                 .wait(state)
                 .unwrap_or_else(PoisonError::into_inner);
+            state.idle -= 1;
         }
     }
 
@@ -262,15 +321,19 @@ impl WalkParallel {
         if roots.is_empty() {
             return;
         }
-        let shared = Shared::default();
+        let shared = Shared::of(self.count());
         // The first root is taken first.
         roots.reverse();
         shared.put(roots.into_iter());
         let visitors: Vec<_> = (0..self.count()).map(|_| builder.build()).collect();
         thread::scope(|scope| {
             let (walk, shared) = (&self, &shared);
-            let run = |visitor| scope.spawn(move || Worker::new(walk, shared, visitor).run());
-            let handles: Vec<_> = visitors.into_iter().map(run).collect();
+            // (a thread that can't be had is a panic here, and those before it are to end)
+            let _ends = EndsByPanic(shared);
+            let run = |(thread, visitor)| {
+                scope.spawn(move || Worker::new(walk, shared, thread, visitor).run())
+            };
+            let handles: Vec<_> = visitors.into_iter().enumerate().map(run).collect();
             let ended = handles.into_iter().map(thread::ScopedJoinHandle::join);
             let panics: Vec<_> = ended.filter_map(Result::err).collect();
             if let Some(first) = panics.into_iter().next() {
@@ -321,6 +384,8 @@ struct Entered {
 struct Worker<'w, 's> {
     walk: &'w WalkParallel,
     shared: &'w Shared,
+    /// Its number.
+    thread: usize,
     visitor: Box<dyn ParallelVisitor + 's>,
     guide: Option<Guide>,
     root: Option<(Arc<Root>, Place)>,
@@ -332,11 +397,13 @@ impl<'w, 's> Worker<'w, 's> {
     fn new(
         walk: &'w WalkParallel,
         shared: &'w Shared,
+        thread: usize,
         visitor: Box<dyn ParallelVisitor + 's>,
     ) -> Worker<'w, 's> {
         Worker {
             walk,
             shared,
+            thread,
             visitor,
             guide: None,
             root: None,
@@ -346,7 +413,7 @@ impl<'w, 's> Worker<'w, 's> {
 
     fn run(mut self) {
         let _ends = EndsByPanic(self.shared);
-        while let Some((work, _open)) = self.shared.next() {
+        while let Some((work, _open)) = self.shared.next(self.thread) {
             if self.work(work).is_quit() {
                 self.shared.end();
             }
@@ -360,14 +427,15 @@ impl<'w, 's> Worker<'w, 's> {
 
     fn work(&mut self, work: Work) -> WalkState {
         match work {
-            Work::Entries(entries) => {
-                for entry in entries {
-                    if self.shared.is_over() || self.show(entry).is_quit() {
-                        return WalkState::Quit;
-                    }
+            Work::Taken | Work::Entries(_) => loop {
+                let entry = self.shared.taken(self.thread).pop();
+                let Some(entry) = entry else {
+                    return WalkState::Continue;
+                };
+                if self.shared.is_over() || self.show(entry).is_quit() {
+                    return WalkState::Quit;
                 }
-                WalkState::Continue
-            }
+            },
             Work::Root(_, entry) if !entry.is_dir() => self.show(entry),
             Work::Root(root, entry) => {
                 let Begun { place, above, own } = self.begin(&root);
@@ -376,10 +444,8 @@ impl<'w, 's> Worker<'w, 's> {
                         return WalkState::Quit;
                     }
                 }
-                match self.folder(&root, None, &entry) {
-                    Ok(folder) => self.enter(&folder, entry, Some((place, own))),
-                    Err(error) => self.visitor.visit(Err(error)),
-                }
+                let folder = self.folder(&root, None, &entry);
+                self.enter(&folder, entry, Some((place, own)))
             }
             Work::Folder(folder, entry) => self.enter(&folder, entry, None),
         }
@@ -421,24 +487,23 @@ impl<'w, 's> Worker<'w, 's> {
         }
     }
 
+    /// A directory. What can't be had of it is an error where it is listed.
     fn folder(
         &self,
         root: &Arc<Root>,
         parent: Option<&Arc<Folder>>,
         entry: &DirEntry,
-    ) -> Result<Arc<Folder>, Error> {
+    ) -> Arc<Folder> {
         let path = entry.path().to_path_buf();
-        let identity = match self.walk.manner.follow_links {
-            false => None,
-            true => Some(identity(&path).map_err(|e| Error::of_walk(e, &path, entry.depth()))?),
-        };
-        Ok(Arc::new(Folder {
+        let follows = self.walk.manner.follow_links;
+        let found = follows.then(|| identity(&path).ok());
+        Arc::new(Folder {
             root: root.clone(),
             parent: parent.cloned(),
             path,
-            identity,
+            identity: found.flatten(),
             answers: OnceLock::new(),
-        }))
+        })
     }
 
     /// Has a directory and those on the way to it entered, by what other threads were told of them.
@@ -584,7 +649,7 @@ impl<'w, 's> Worker<'w, 's> {
                 Ok(Some((None, entry))) => {
                     together.push(entry);
                     if together.len() == TOGETHER {
-                        work.push(Work::Entries(std::mem::take(&mut together)));
+                        work.push(Work::entries(std::mem::take(&mut together)));
                     }
                 }
                 Err(error) => {
@@ -595,7 +660,7 @@ impl<'w, 's> Worker<'w, 's> {
             }
         }
         if !together.is_empty() {
-            work.push(Work::Entries(together));
+            work.push(Work::entries(together));
         }
         // What is listed first is taken first.
         work.reverse();
@@ -651,10 +716,8 @@ impl<'w, 's> Worker<'w, 's> {
         if manner.leaves_out(&entry, is_too_large)? {
             return Ok(None);
         }
-        let child = match entry.is_dir() {
-            true => Some(self.folder(&folder.root, Some(folder), &entry)?),
-            false => None,
-        };
+        let is_dir = entry.is_dir();
+        let child = is_dir.then(|| self.folder(&folder.root, Some(folder), &entry));
         Ok(Some((child, entry)))
     }
 }

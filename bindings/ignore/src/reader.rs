@@ -2,8 +2,9 @@
 
 use crate::library::{Fault, Given, Kind, Wanted};
 use crate::names::{of_disk, told};
-use std::fs::{self, File};
+use std::fs::{self, File, OpenOptions};
 use std::io::{self, Read};
+use std::os::unix::fs::OpenOptionsExt;
 use std::path::Path;
 use std::sync::Arc;
 
@@ -69,7 +70,7 @@ pub(crate) fn read(wanted: Wanted, text: &[u8]) -> Given {
             bytes: Arc::default(),
             fault: None,
         },
-        (_, Kind::File) => content(&path, found.len()),
+        (_, Kind::File) => content(&path),
         (_, Kind::Dir) => failed(kind, Fault::IsADirectory),
         _ => failed(kind, Fault::Other),
     }
@@ -86,15 +87,53 @@ fn canonical(path: &Path) -> Given {
     }
 }
 
-/// What can be read of a file, of which the size is known that it has.
-fn content(path: &Path, size: u64) -> Given {
-    let room = usize::try_from(size).unwrap_or(0).min(1 << 20) + 1;
-    let mut bytes = Vec::with_capacity(room);
-    // (without a limit the system would be asked for the size once more)
-    let ended = File::open(path).and_then(|file| file.take(u64::MAX).read_to_end(&mut bytes));
+/// `O_NONBLOCK`.
+const AT_ONCE: i32 = if cfg!(target_os = "linux") { 0o4000 } else { 4 };
+
+/// Opens what is at a path, without waiting for anyone: another may have put a pipe there since it
+/// was looked at.
+pub(crate) fn opened(path: &Path) -> io::Result<File> {
+    OpenOptions::new()
+        .read(true)
+        .custom_flags(AT_ONCE)
+        .open(path)
+}
+
+/// What can be read of a file, if it is one yet.
+fn content(path: &Path) -> Given {
+    let mut bytes = Vec::new();
+    let ended = opened(path).and_then(|file| {
+        let found = file.metadata()?;
+        if !found.is_file() {
+            return Err(io::Error::from(io::ErrorKind::InvalidInput));
+        }
+        let room = usize::try_from(found.len()).unwrap_or(0).min(1 << 20) + 1;
+        bytes.reserve_exact(room);
+        // (without a limit the system would be asked for the size once more)
+        file.take(u64::MAX).read_to_end(&mut bytes)
+    });
     Given {
         kind: Kind::File,
         bytes: Arc::new(bytes),
         fault: ended.err().map(|error| fault_of(&error)),
+    }
+}
+
+#[cfg(test)]
+mod tests {
+    use super::{content, opened};
+    use crate::library::Fault;
+    use std::process::Command;
+    use std::{env, fs};
+
+    #[test]
+    fn what_became_a_pipe_is_not_waited_for() {
+        let pipe = env::temp_dir().join(format!("ignore_pipe_{}", std::process::id()));
+        let made = Command::new("mkfifo").arg(&pipe).status();
+        assert!(made.is_ok_and(|it| it.success()));
+        let given = content(&pipe);
+        assert_eq!((given.fault, given.bytes.len()), (Some(Fault::Other), 0));
+        assert!(opened(&pipe).is_ok());
+        fs::remove_file(&pipe).expect("the pipe goes");
     }
 }

@@ -3,7 +3,7 @@
 use crate::decide::{Asked, Begun, Explicit, Guide, Place, Plan, Settings};
 use crate::entry::{identity, is_file, DirEntry, Follows, Identity};
 use crate::error::Errors;
-use crate::gitignore::GitignoreBuilder;
+use crate::gitignore::{file_text, GitignoreBuilder};
 use crate::incremental::IncrementalIgnore;
 use crate::library::Verdict;
 use crate::listing::{Listed, Listing};
@@ -11,6 +11,7 @@ use crate::names::told;
 use crate::overrides::Override;
 use crate::parallel::WalkParallel;
 use crate::paths::joined;
+use crate::reader::opened;
 use crate::types::Types;
 use crate::Error;
 use std::cmp::Ordering;
@@ -266,12 +267,16 @@ impl WalkBuilder {
                 Err(error) => return Some(error.into()),
             },
         };
+        // (it is read once, since it may be a pipe)
+        let (text, stopped) = match file_text(path) {
+            Ok(found) => found,
+            Err(error) => return Some(error),
+        };
         let mut errors = Errors::default();
-        errors.add(GitignoreBuilder::new(&root).add(path));
-        if let Ok(text) = fs::read(path) {
-            let text = text.into();
-            self.settings.explicit.push(Explicit { root, text });
-        }
+        GitignoreBuilder::new(&root).add_text(path, &text, &mut errors);
+        errors.add(stopped);
+        let text = text.into();
+        self.settings.explicit.push(Explicit { root, text });
         errors.into_error()
     }
 
@@ -417,6 +422,9 @@ fn stdout_file() -> Option<Identity> {
     found.is_file().then(|| (found.dev(), found.ino()))
 }
 
+/// So many directories are open at once.
+const OPEN_AT_ONCE: usize = 8;
+
 /// A directory that is walked.
 struct Level {
     place: Place,
@@ -557,6 +565,16 @@ impl Walk {
         }
     }
 
+    /// Lists a directory: whole, where many are open that are read as the walk goes.
+    fn listing(&self, path: &Path) -> io::Result<Listing> {
+        let mut listing = Listing::read(path)?;
+        let is_open = |level: &&Level| level.listing.is_open();
+        if listing.is_open() && self.levels.iter().filter(is_open).count() >= OPEN_AT_ONCE {
+            listing.read_rest();
+        }
+        Ok(listing)
+    }
+
     fn give(&mut self, entry: DirEntry) {
         if entry.depth() >= self.manner.min_depth {
             self.ready.push_back(Ok(entry));
@@ -572,14 +590,14 @@ impl Walk {
         let watches_device = depth > 0 && self.device.is_some();
         let asks = self.manner.follow_links || watches_device;
         let found = match (self.manner.lists(depth) && asks).then(|| identity(&path)) {
-            Some(Err(error)) => return self.ready.push_back(failed(error)),
+            Some(Err(error)) if watches_device => return self.ready.push_back(failed(error)),
             found => found.and_then(Result::ok),
         };
         let is_elsewhere = watches_device && found.map(|it| it.0) != self.device;
         if !self.manner.lists(depth) || is_elsewhere {
             return self.give(entry);
         }
-        let mut listing = match Listing::read(&path) {
+        let listing = match self.listing(&path) {
             Ok(listing) => listing,
             Err(error) => {
                 self.give(entry);
@@ -596,20 +614,18 @@ impl Walk {
         };
         entry.set_error(error);
         self.give(entry);
-        let sorted = match &self.sorter {
-            None => Vec::new().into_iter(),
-            Some(sorter) => {
-                let mut whole = std::mem::take(&mut listing);
-                sorted(&mut whole, &path, depth + 1, sorter)
-            }
-        };
         self.levels.push(Level {
             place,
             path,
             identity: found,
             listing,
-            sorted,
+            sorted: Vec::new().into_iter(),
         });
+        // (after a panic of the order the directory is one that was entered, and is left)
+        if let (Some(sorter), Some(level)) = (&self.sorter, self.levels.last_mut()) {
+            let mut whole = std::mem::take(&mut level.listing);
+            level.sorted = sorted(&mut whole, &level.path, depth + 1, sorter);
+        }
     }
 
     /// What becomes of an entry as it is listed. It is made only where the rules keep it.
@@ -712,7 +728,7 @@ pub(crate) fn check_loop<'a>(
     mut above: impl Iterator<Item = (&'a Path, Option<Identity>)>,
 ) -> Result<(), Error> {
     // (as in the original the directory is opened, so one that can't be is an error)
-    let found = File::open(link.path()).and_then(|file| file.metadata());
+    let found = opened(link.path()).and_then(|file| file.metadata());
     let found = found.map_err(|error| Error::of_walk(error, link.path(), link.depth()))?;
     let found = (found.dev(), found.ino());
     match above.find(|(_, identity)| *identity == Some(found)) {

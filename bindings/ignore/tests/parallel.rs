@@ -11,7 +11,7 @@ use std::path::PathBuf;
 use std::sync::atomic::{AtomicBool, AtomicUsize, Ordering};
 use std::sync::Mutex;
 use std::thread;
-use std::time::Duration;
+use std::time::{Duration, Instant};
 
 /// Collects what its thread is shown, and hands it in when it is dropped.
 struct Collector<'a> {
@@ -147,6 +147,28 @@ fn quit_ends_a_walk_of_one_thread_at_once() {
             });
         assert_eq!(shown.into_inner(), last);
     }
+}
+
+#[test]
+fn the_files_of_one_directory_are_visited_by_all_threads_at_once() {
+    let room = many(1, 8);
+    let (under_way, begun) = (AtomicUsize::new(0), Instant::now());
+    let is_late = || begun.elapsed() > Duration::from_secs(10);
+    WalkBuilder::new(room.path().join("d0/e0"))
+        .threads(4)
+        .build_parallel()
+        .run(|| {
+            Box::new(|entry| {
+                if entry.is_ok_and(|it| it.depth() == 1) {
+                    under_way.fetch_add(1, Ordering::SeqCst);
+                    while under_way.load(Ordering::SeqCst) < 4 && !is_late() {
+                        thread::sleep(Duration::from_millis(1));
+                    }
+                }
+                WalkState::Continue
+            })
+        });
+    assert!(!is_late());
 }
 
 #[test]

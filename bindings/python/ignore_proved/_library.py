@@ -259,27 +259,30 @@ def places() -> list[str]:
 def load() -> ctypes.CDLL:
     """Loads the shared object, and gives its calls their types.
 
-    Raises ImportError where it isn't found.
+    Raises ImportError where it isn't found, or is another one, which lacks a call.
     """
     faults = []
     for place in places():
         try:
             # (by a PyDLL the interpreter's lock is held: one call at a time has a handle)
-            library = ctypes.PyDLL(place)
-        except OSError as error:
+            return typed(ctypes.PyDLL(place))
+        except (OSError, AttributeError) as error:
             faults.append(str(error))
-            continue
-        for name, types in CALLS.items():
-            call = getattr(library, f"ignore_{name}")
-            call.argtypes, call.restype = types, c_uint32
-        for name in FREES:
-            call = getattr(library, f"ignore_{name}")
-            call.argtypes, call.restype = [Handle], None
-        return library
     raise ImportError(
         f"{NAME} isn't there: put it beside this package, or set {VARIABLE} to its path. "
         f"tools/release of the repository makes it, in dist/. ({'; '.join(faults)})"
     )
+
+
+def typed(library: ctypes.CDLL) -> ctypes.CDLL:
+    """Gives the calls of a shared object their types."""
+    for name, types in CALLS.items():
+        call = getattr(library, f"ignore_{name}")
+        call.argtypes, call.restype = types, c_uint32
+    for name in FREES:
+        call = getattr(library, f"ignore_{name}")
+        call.argtypes, call.restype = [Handle], None
+    return library
 
 
 library = load()

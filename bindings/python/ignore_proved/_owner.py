@@ -5,38 +5,27 @@ from ctypes import byref
 from operator import index
 from threading import get_ident
 from types import TracebackType
-from typing import Any, Dict, List, NoReturn, Optional, Tuple, Type, TypeVar
+from typing import Any, NoReturn, Optional, Type, TypeVar
 
 from . import _library as lib
 from ._errors import MisusedError, checked
 
-#: The handles that another thread collected, by the thread that made them, which frees them later.
-_left: Dict[int, List[Tuple[str, lib.Handle]]] = {}
-
 Self = TypeVar("Self", bound="Owner")
-
-
-def free(kind: str, handle: lib.Handle) -> None:
-    """Frees a handle, which nothing else has."""
-    getattr(lib.library, f"ignore_{kind}_free")(handle)
 
 
 class Owned(lib.Handle):
     """A handle that is freed where nothing has it any more: no object, and, by `byref`, no call.
 
     So where a signal's handler or a finaliser closes an object, a call that has begun ends first.
+    That may be on any thread: no call has it then. It has its own way to the call that frees it,
+    since at the end of the interpreter modules are empty.
     """
 
-    kind = ""
-    thread = 0
+    frees: Any = None
 
     def __del__(self) -> None:
-        if not self.kind:
-            return
-        if self.thread == get_ident():
-            free(self.kind, self)
-        else:
-            _left.setdefault(self.thread, []).append((self.kind, lib.Handle(self.at)))
+        if self.at:
+            self.frees(self)
 
 
 class Owner:
@@ -49,14 +38,16 @@ class Owner:
     _handle: Optional[Owned] = None
     _thread = 0
 
-    def _own(self, handle: lib.Handle) -> None:
+    def _new(self) -> Owned:
+        """A handle for a call that makes one: also where that is interrupted, it is freed."""
+        handle = Owned()
+        handle.frees = getattr(lib.library, f"ignore_{self._kind}_free")
+        return handle
+
+    def _own(self, handle: Owned) -> None:
         """Keeps a handle that was just made."""
-        owned = Owned(handle.at)
-        owned.thread, owned.kind = get_ident(), self._kind
         self.close()
-        self._thread, self._handle = owned.thread, owned
-        for kind, other in _left.pop(owned.thread, ()):
-            free(kind, other)
+        self._thread, self._handle = get_ident(), handle
 
     def close(self) -> None:
         """Frees it, once no call has it. After that it isn't used."""
@@ -103,7 +94,8 @@ def handle_of(kind: Type[Owner], given: Owner) -> Any:
     return given.handle
 
 
-def number(value: Any) -> int:
-    """A number of 64 bits. Raises OverflowError where it is negative or too large."""
-    index(value).to_bytes(8, "little")
-    return index(value)
+def number(value: Any, size: int = 8) -> int:
+    """A number of so many bytes. Raises OverflowError where it is negative or too large."""
+    found = index(value)
+    found.to_bytes(size, "little")
+    return found

@@ -76,7 +76,7 @@ class Findings(Owner):
     _kind = "findings"
 
     def __init__(self, rules: Any, limit: int) -> None:
-        handle = lib.Handle()
+        handle = self._new()
         checked(lib.library.ignore_rules_dead(rules, number(limit), byref(handle)))
         self._own(handle)
 

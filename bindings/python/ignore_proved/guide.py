@@ -3,8 +3,9 @@ from __future__ import annotations
 
 import ctypes
 import os
+from array import array
 from ctypes import byref, c_size_t, c_uint32
-from typing import Callable, Iterable, List, NamedTuple, Optional, Sequence, Tuple
+from typing import Any, Callable, Iterable, List, NamedTuple, Optional, Sequence, Tuple
 
 from . import _library as lib
 from ._decisions import DECISIONS
@@ -13,7 +14,7 @@ from ._names import of_disk, told
 from ._owner import Owner, handle_of, number
 from .answers import Match, lengths_of
 from .host import Given, read
-from .rules import Path, encoded
+from .rules import Path, encoded, plain
 from .tree import Builder, text
 
 NO_SIZES = (ctypes.c_uint64 * 1)()
@@ -53,39 +54,34 @@ class Guide(Owner):
 
     Directories are entered below a root or one another, their entries are decided on, and they are
     left, those below them first. What has to be known of a path is read from the disk, or by
-    `reads(wanted, path)`: 1 is what is there, 2 its content too, 3 its canonical path.
+    `reads(wanted, path)`: 1 is what is there, 2 its content too, 3 its canonical path. Where that
+    raises, or answers what a guide can't be given, the directory isn't entered.
     """
 
     _kind = "guide"
 
     def __init__(self, builder: Builder, reads: Reads = read) -> None:
-        handle = lib.Handle()
+        handle = self._new()
         checked(lib.library.ignore_guide_new(handle_of(Builder, builder), byref(handle)))
         self._own(handle)
         self._reads = reads
-        self._found = lib.Found()
 
     def root(self, path: Path) -> lib.Place:
         """Begins a root, by its path."""
-        place = lib.Place()
         given = text(told(os.fsdecode(encoded(path))))
-        code = lib.library.ignore_guide_root(self.handle, *given, byref(place))
-        return self._answered(code, place)
+        return self._come(lib.library.ignore_guide_root, *given)
 
     def enter(self, parent: lib.Place, name: str, listed: Optional[Listed] = None) -> lib.Place:
         """Enters the directory of a name in another, of which it may be known what it lists."""
-        place, names = lib.Place(), listed.names if listed else b""
-        given = text(told(name))
-        code = lib.library.ignore_guide_enter(
-            self.handle, byref(parent), *given, names, len(names), byref(place)
-        )
-        return self._answered(code, place)
+        names = plain(listed.names) if listed else b""
+        given = byref(parent), *text(told(name)), names, len(names)
+        return self._come(lib.library.ignore_guide_enter, *given)
 
     def decide(
         self, place: lib.Place, name: str, is_dir: bool, size: Optional[int] = None
     ) -> Match:
         """What becomes of an entry of a directory that was entered."""
-        found, given = self._found, told(name).encode("utf-8")
+        found, given = lib.Found(), told(name).encode("utf-8")
         size = lib.NO_SIZE if size is None else number(size)
         code = lib.library.ignore_guide_decide(
             self.handle, byref(place), given, len(given), bool(is_dir), size, byref(found)
@@ -98,14 +94,16 @@ class Guide(Owner):
         """The same of all that a directory lists, by a number for each: 1, 2 and 3 stand for the
         decisions; 4 is added where a walk would enter it, 8 where it is as deep as asked.
         """
-        names, kinds = listed
-        count, given, most = len(kinds), NO_SIZES, 0
-        if sizes is not None:
-            given, most = (ctypes.c_uint64 * max(len(sizes), 1))(*sizes), len(sizes)
+        names, kinds = map(plain, listed)
+        # (an array's numbers are those that fit, and as many as it has)
+        count, given = len(kinds), array("Q", () if sizes is None else iter(sizes))
+        if sizes is not None and len(given) != count:
+            raise error_of(lib.MISUSED)
         codes = ctypes.create_string_buffer(max(count, 1))
         if count:
+            at = (ctypes.c_uint64 * len(given)).from_buffer(given) if given else NO_SIZES
             checked(lib.library.ignore_guide_decide_all(
-                self.handle, byref(place), names, len(names), kinds, count, given, most,
+                self.handle, byref(place), names, len(names), kinds, count, at, len(given),
                 codes, count,
             ))
         return codes.raw[:count]
@@ -115,7 +113,7 @@ class Guide(Owner):
     ) -> Tuple[Match, lib.WhyParts, bytes]:
         """What becomes of an entry, as `decide` says, the parts of the reason, and its texts."""
         parts, room = lib.WhyParts(), ctypes.create_string_buffer(512)
-        found, given = self._found, text(told(name))
+        found, given = lib.Found(), text(told(name))
         size = lib.NO_SIZE if size is None else number(size)
         while True:
             code = lib.library.ignore_guide_why(
@@ -150,41 +148,50 @@ class Guide(Owner):
                 continue
             found.append(problem_of(parts, room.raw[:whole]))
 
-    def _answered(self, code: int, place: lib.Place) -> lib.Place:
-        """Gives what a call wants to know, until it has a place."""
+    def _come(self, call: Any, *words: object) -> lib.Place:
+        """The place that a call answers, once it is given what it wants to know."""
+        place, code = lib.Place(), lib.WANTS
+        handle = self.handle
+        try:
+            code = call(handle, *words, byref(place))
+            if code == lib.WANTS:
+                self._answer(place)
+            else:
+                checked(code)
+            return place
+        except BaseException:
+            # (whatever it was, the call doesn't wait on, nor is there a place that nobody has)
+            if code == lib.WANTS or place.serial:
+                self._end(place)
+            raise
+
+    def _answer(self, place: lib.Place) -> None:
+        """Gives what the call that waits wants to know, until it has a place."""
         room, wanted, whole = ctypes.create_string_buffer(512), c_uint32(), c_size_t()
+        code = lib.WANTS
         while code == lib.WANTS:
-            handle = self.handle
-            checked(lib.library.ignore_guide_wanted(
-                handle, byref(wanted), room, len(room), byref(whole)
-            ))
+            self._call("wanted", byref(wanted), room, len(room), byref(whole))
             if whole.value > len(room):
                 room = ctypes.create_string_buffer(whole.value)
                 continue
-            path = of_disk(room.raw[: whole.value].decode("utf-8"))
-            try:
-                given = self._reads(wanted.value, path)
-            except BaseException:
-                self._end(place)
-                raise
-            code = self._give(given, place)
+            path = of_disk(room[: whole.value].decode("utf-8"))
+            code = self._give(self._reads(wanted.value, path), place)
         checked(code)
-        return place
 
     def _give(self, given: Given, place: lib.Place) -> int:
         """Gives what the call that waits wants to know, and returns what that answers."""
         kind, content, fault = given
-        fault = lib.NO_FAULT if fault is None else fault
-        give = lib.library.ignore_guide_give
-        code: int = give(self.handle, kind, content, len(content), fault, byref(place))
+        content = plain(content)
+        fault = lib.NO_FAULT if fault is None else number(fault, 4)
+        words = number(kind, 4), content, len(content), fault
+        code: int = lib.library.ignore_guide_give(self.handle, *words, byref(place))
         return code
 
     def _end(self, place: lib.Place) -> None:
-        """Ends the call that waits: nothing is there, and the directory is left."""
-        code = lib.WANTS
-        while code == lib.WANTS:
-            code = self._give(NOTHING, place)
-        if code == lib.OK:
+        """Ends the call that waits, if one does: nothing is there, and the directory is left."""
+        while not place.serial and self._give(NOTHING, place) == lib.WANTS:
+            pass
+        if place.serial:
             self.leave(place)
 
 

@@ -48,17 +48,29 @@ def read(wanted: int, path: str) -> Given:
     if wanted == KIND:
         return Given(1)
     try:
-        with open(path, "rb") as file:
+        with open(path, "rb", opener=at_once) as file:
+            # (meanwhile it may have become a pipe, or a device without an end)
+            if not stat.S_ISREG(os.fstat(file.fileno()).st_mode):
+                return Given(4, b"", OTHER)
             return Given(1, file.read())
     except OSError as error:
         return Given(1, b"", fault_of(error))
 
 
+def at_once(path: str, flags: int) -> int:
+    """Opens a file; a pipe without waiting for who writes to it."""
+    return os.open(path, flags | os.O_NONBLOCK)
+
+
 def known_env() -> Dict[str, Optional[str]]:
     """What is known of the environment, as the library is told it."""
     known = os.environ.get
+    try:
+        folder: Optional[str] = os.path.realpath(os.getcwd())
+    except OSError:
+        folder = None
     env = {
-        "current_dir": os.path.realpath(os.getcwd()),
+        "current_dir": folder,
         "home": known("HOME") or None,
         "xdg_config_home": known("XDG_CONFIG_HOME") or None,
         "git_config_global": known("GIT_CONFIG_GLOBAL"),

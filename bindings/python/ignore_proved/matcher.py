@@ -32,15 +32,14 @@ class TreeMatcher(Owner):
     _kind = "matcher"
 
     def __init__(self, builder: Builder, tree: Tree) -> None:
-        handle = lib.Handle()
+        handle = self._new()
         words = handle_of(Builder, builder), handle_of(Tree, tree), byref(handle)
         checked(lib.library.ignore_matcher_new(*words))
         self._own(handle)
-        self._found = lib.Found()
 
     def match(self, tree: Tree, path: Path, is_dir: bool) -> Match:
         """What becomes of a clean path below the root."""
-        given, is_dir, found = encoded(path), bool(is_dir), self._found
+        given, is_dir, found = encoded(path), bool(is_dir), lib.Found()
         code = lib.library.ignore_matcher_matched(
             self.handle, handle_of(Tree, tree), given, len(given), is_dir, byref(found)
         )
@@ -151,12 +150,55 @@ def tell_file(tree: Tree, path: str) -> str:
 Stand = Union[Cause, lib.Place, Tuple[lib.Place, str]]
 
 
+class Kept:
+    """What a matcher keeps: a guide, and the directories that were entered, by their paths below
+    the root; None is an ignored one. It isn't whole while directories are entered or left: where
+    that was interrupted, or somebody asks meanwhile, another is begun.
+    """
+
+    def __init__(self, builder: Builder, root: str) -> None:
+        self.guide = Guide(builder)
+        self.root = root
+        self.places: Dict[str, Optional[lib.Place]] = {}
+        self._begin()
+        self.is_whole = True
+
+    def _begin(self) -> None:
+        if os.path.isdir(self.root):
+            self.places[""] = self.guide.root(self.root)
+
+    def entered(self, around: lib.Place, path: str) -> Optional[lib.Place]:
+        """The place of a directory in another; None where it is ignored."""
+        self.is_whole = False
+        place, name = self.places.get(path), os.path.basename(path)
+        if place is None and path not in self.places:
+            if not self.guide.decide(around, name, True).is_ignore:
+                place = self.guide.enter(around, name)
+            self.places[path] = place
+        self.is_whole = True
+        return place
+
+    def forget(self, below: str) -> int:
+        """Leaves a directory and those below it, so that they are read anew, and counts them."""
+        self.is_whole = False
+        inside = f"{below}/" if below else ""
+        gone = [it for it in self.places if it == below or it.startswith(inside)]
+        for path in sorted(gone, key=depth_of, reverse=True):
+            place = self.places.pop(path)
+            if place is not None:
+                self.guide.leave(place)
+        if not below:
+            self._begin()
+        self.is_whole = True
+        return len(gone)
+
+
 class Matcher:
     """Whether a walk of a directory on disk would yield paths below it.
 
     What decides is read from the disk as it is needed: the directories above the root, and those on
-    the way to a path that is asked. What was read is kept until `forget`. The settings are those of
-    `Builder.set`, and besides:
+    the way to a path that is asked. What was read is kept until `forget`, or until a question is
+    interrupted. The settings are those of `Builder.set`, and besides:
 
     - `overrides`: globs as of a command line, relative to the root, which whitelist what they
       match, or with a leading `!` ignore it, before anything else decides;
@@ -171,18 +213,17 @@ class Matcher:
 
     def __init__(self, root: Path = ".", **settings: Any) -> None:
         recipe = Recipe(root, settings)
-        self.root, self._limits = recipe.root, recipe.limits
-        with recipe.builder as builder, Tree(recipe.env["current_dir"] or "/") as tree:
-            self._guide = Guide(builder)
+        self.root, self._limits, self._builder = recipe.root, recipe.limits, recipe.builder
+        with Tree(recipe.env["current_dir"] or "/") as tree:
             # (by this paths are made clean; it is asked nothing else)
-            self._texts = TreeMatcher(builder, tree)
-        #: The directories that were entered, by their paths below the root; None is an ignored one.
-        self._places: Dict[str, Optional[lib.Place]] = {}
-        self._begin()
+            self._texts = TreeMatcher(self._builder, tree)
+        self._kept = Kept(self._builder, self.root)
 
-    def _begin(self) -> None:
-        if os.path.isdir(self.root):
-            self._places[""] = self._guide.root(self.root)
+    def _whole(self) -> Kept:
+        """What is kept, or what is begun in its place."""
+        if not self._kept.is_whole:
+            self._kept = Kept(self._builder, self.root)
+        return self._kept
 
     def match(self, path: Path, is_dir: Optional[bool] = None) -> Match:
         """What becomes of a path, which is below the root, or in it where it is relative.
@@ -193,25 +234,25 @@ class Matcher:
         below = self._below(path)
         if below is None:
             return Match(Decision.NONE, bool(is_dir), True)
-        is_dir = self._is_dir(below) if is_dir is None else bool(is_dir)
-        return self._answer(self._stand(below, is_dir), below, is_dir)
+        is_dir, kept = self._is_dir(below) if is_dir is None else bool(is_dir), self._whole()
+        return self._answer(kept, self._stand(kept, below, is_dir), below, is_dir)
 
     def explain(self, path: Path, is_dir: Optional[bool] = None) -> Explanation:
         """As `match`, with the reason: the rule, its file and its line, or what else decides."""
         below = self._below(path)
         if below is None:
             return Explanation(Match(Decision.NONE, bool(is_dir), True), Cause.NOT_ASKED)
-        is_dir = self._is_dir(below) if is_dir is None else bool(is_dir)
-        stand = self._stand(below, is_dir)
+        is_dir, kept = self._is_dir(below) if is_dir is None else bool(is_dir), self._whole()
+        stand = self._stand(kept, below, is_dir)
         if isinstance(stand, Cause):
-            return Explanation(self._answer(stand, below, is_dir), stand)
+            return Explanation(self._answer(kept, stand, below, is_dir), stand)
         if isinstance(stand, tuple):
             around, folder = stand
-            _, parts, texts = self._guide.why(around, os.path.basename(folder), True)
-            match = self._answer(stand, below, is_dir)
+            _, parts, texts = kept.guide.why(around, os.path.basename(folder), True)
+            match = self._answer(kept, stand, below, is_dir)
             return replace(explanation_of(match, parts, texts), ancestor=folder)
         size = self._size(below, is_dir)
-        return explanation_of(*self._guide.why(stand, os.path.basename(below), is_dir, size))
+        return explanation_of(*kept.guide.why(stand, os.path.basename(below), is_dir, size))
 
     def is_ignored(self, path: Path, is_dir: Optional[bool] = None) -> bool:
         """Whether the path is ignored, or a folder below the root that it is in."""
@@ -222,22 +263,13 @@ class Matcher:
         read anew: after its files of rules have changed. It returns how many were kept.
         """
         below = self._below(folder)
-        if below is None:
-            return 0
-        inside = f"{below}/" if below else ""
-        gone = [it for it in self._places if it == below or it.startswith(inside)]
-        for it in sorted(gone, key=lambda it: it.count("/") if it else -1, reverse=True):
-            place = self._places.pop(it)
-            if place is not None:
-                self._guide.leave(place)
-        if not below:
-            self._begin()
-        return len(gone)
+        return 0 if below is None else self._whole().forget(below)
 
     def close(self) -> None:
         """Frees the matcher. After that it isn't used."""
-        self._guide.close()
+        self._kept.guide.close()
         self._texts.close()
+        self._builder.close()
 
     def __enter__(self) -> "Matcher":
         return self
@@ -245,33 +277,30 @@ class Matcher:
     def __exit__(self, *raised: object) -> None:
         self.close()
 
-    def _stand(self, below: str, is_dir: bool) -> Stand:
+    def _stand(self, kept: Kept, below: str, is_dir: bool) -> Stand:
         """Where a clean path stands. The directories on the way to it are entered."""
         depth, (least, most, _) = depth_of(below), self._limits
         if most is not None and most < depth:
             return Cause.TOO_DEEP
         if not is_dir and least is not None and depth < least:
             return Cause.TOO_SHALLOW
-        place = self._places.get("")
+        place = kept.places.get("")
         if place is None or not below:
             return Cause.UNRULED
         folder = os.path.dirname(below)
-        known = self._places.get(folder)
+        known = kept.places.get(folder)
         if known is not None:
             return known
         at = ""
         for name in folder.split("/"):
             at = f"{at}/{name}" if at else name
-            if at not in self._places:
-                ignored = self._guide.decide(place, name, True).is_ignore
-                self._places[at] = None if ignored else self._guide.enter(place, name)
-            found = self._places[at]
+            found = kept.entered(place, at)
             if found is None:
                 return place, at
             place = found
         return place
 
-    def _answer(self, stand: Stand, below: str, is_dir: bool) -> Match:
+    def _answer(self, kept: Kept, stand: Stand, below: str, is_dir: bool) -> Match:
         depth, (least, most, _) = depth_of(below), self._limits
         if stand in (Cause.TOO_DEEP, Cause.TOO_SHALLOW):
             return Match(Decision.IGNORE, False, False)
@@ -281,7 +310,7 @@ class Matcher:
         if isinstance(stand, tuple):
             return Match(Decision.IGNORE, False, is_within)
         name = os.path.basename(below)
-        return self._guide.decide(stand, name, is_dir, self._size(below, is_dir))
+        return kept.guide.decide(stand, name, is_dir, self._size(below, is_dir))
 
     def _size(self, below: str, is_dir: bool) -> Optional[int]:
         """The size of what is there, where it matters: of a link, that of its text."""
@@ -289,7 +318,7 @@ class Matcher:
             return None
         try:
             return os.lstat(os.path.join(self.root, below)).st_size
-        except OSError:
+        except (OSError, ValueError):
             return None
 
     def _is_dir(self, below: str) -> bool:

@@ -64,7 +64,12 @@ def encoded(path: Path) -> bytes:
     path = path if type(path) is str else os.fspath(path)
     if isinstance(path, str):
         return str.encode(path, "utf-8", "surrogateescape")
-    return path if type(path) is bytes else bytes(memoryview(path))
+    return plain(path)
+
+
+def plain(given: bytes) -> bytes:
+    """Bytes as plain `bytes`, whose length is theirs."""
+    return given if type(given) is bytes else bytes(memoryview(given))
 
 
 def several(texts: Iterable[T]) -> Iterable[T]:
@@ -83,6 +88,8 @@ class Rules(Owner):
     """
 
     _kind = "rules"
+    #: Where calls write texts. (A call takes it away, so that one inside of it has its own.)
+    _room: Any = None
 
     def __init__(
         self,
@@ -94,8 +101,7 @@ class Rules(Owner):
         git_trailing_spaces: bool = False,
     ) -> None:
         self._is_built = False
-        self._room = ctypes.create_string_buffer(1024)
-        name, handle = encoded(root), lib.Handle()
+        name, handle = encoded(root), self._new()
         options = lib.RuleOptions(case_insensitive, allow_unclosed_class, git_trailing_spaces)
         checked(lib.library.ignore_rules_new(name, len(name), byref(options), byref(handle)))
         self._own(handle)
@@ -281,7 +287,10 @@ class Rules(Owner):
     def built(self) -> Any:
         """The handle's address, once the matcher is built, which takes no line any more."""
         if not self._is_built:
-            self._call("build")
+            code = lib.library.ignore_rules_build(self.handle)
+            # (it is MISUSED where it was built already, by a call that was interrupted then)
+            if code != lib.MISUSED:
+                checked(code)
             self._is_built = True
         return self.handle
 
@@ -291,15 +300,12 @@ class Rules(Owner):
         checked(code)
 
     def _problem(self) -> str:
-        whole = c_size_t()
+        whole, room = c_size_t(), ctypes.create_string_buffer(1024)
         while True:
-            code = lib.library.ignore_rules_problem(
-                self.handle, self._room, len(self._room), byref(whole)
-            )
-            checked(code)
-            if whole.value <= len(self._room):
-                return self._room.raw[: whole.value].decode("utf-8")
-            self._room = ctypes.create_string_buffer(whole.value)
+            self._call("problem", room, len(room), byref(whole))
+            if whole.value <= len(room):
+                return room.raw[: whole.value].decode("utf-8")
+            room = ctypes.create_string_buffer(whole.value)
 
     def _answer(self, ask: Any, path: Path, is_dir: bool) -> Answer:
         text, is_dir = encoded(path), bool(is_dir)
@@ -311,17 +317,19 @@ class Rules(Owner):
     def _told(self, ask: Any, *words: object) -> Answer:
         """What a call answers that tells a rule."""
         handle, parts = self.built(), lib.ReasonParts()
+        room, self._room = self._room or ctypes.create_string_buffer(1024), None
         while True:
-            room = self._room
             code = ask(handle, *words, byref(parts), room, len(room))
-            if code == lib.NONE:
-                return NO_MATCH
-            if code not in (lib.IGNORE, lib.WHITELIST):
-                raise error_of(code)
             whole = parts.source + parts.pattern + parts.glob
             if whole <= len(room):
-                return Answer(Decision(code), reason_of(parts, room.raw[:whole]))
-            self._room = ctypes.create_string_buffer(whole)
+                break
+            room = ctypes.create_string_buffer(whole)
+        texts, self._room = room[:whole], room
+        if code == lib.NONE:
+            return NO_MATCH
+        if code not in (lib.IGNORE, lib.WHITELIST):
+            raise error_of(code)
+        return Answer(Decision(code), reason_of(parts, texts))
 
     def _counts(self) -> lib.Counts:
         counts = lib.Counts()

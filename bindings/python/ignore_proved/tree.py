@@ -29,7 +29,7 @@ class Tree(Owner):
     _kind = "tree"
 
     def __init__(self, cwd: Path = "/") -> None:
-        handle = lib.Handle()
+        handle = self._new()
         checked(lib.library.ignore_tree_new(*text(cwd), byref(handle)))
         self._own(handle)
 
@@ -91,7 +91,7 @@ class Builder(Owner):
     _kind = "builder"
 
     def __init__(self, root: Path, **settings: Any) -> None:
-        handle = lib.Handle()
+        handle = self._new()
         checked(lib.library.ignore_builder_new(*text(root), byref(handle)))
         self._own(handle)
         self.set(**settings)

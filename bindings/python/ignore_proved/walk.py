@@ -3,6 +3,7 @@ from __future__ import annotations
 
 import ctypes
 import os
+import sys
 from ctypes import byref
 from errno import EILSEQ
 from itertools import repeat
@@ -38,27 +39,25 @@ class TreeWalk(Owner):
     _kind = "walk"
 
     def __init__(self, builder: Builder, tree: Tree) -> None:
-        handle = lib.Handle()
+        handle = self._new()
         words = handle_of(Builder, builder), handle_of(Tree, tree), byref(handle)
         checked(lib.library.ignore_walk_new(*words))
         self._own(handle)
-        self._room = ctypes.create_string_buffer(1024)
 
     def __iter__(self) -> "TreeWalk":
         return self
 
     def __next__(self) -> Item:
-        entry = lib.WalkEntry()
+        entry, room = lib.WalkEntry(), ctypes.create_string_buffer(1024)
         while True:
-            room = self._room
             code = lib.library.ignore_walk_next(self.handle, byref(entry), room, len(room))
             if code == lib.NONE:
                 raise StopIteration
             if code == lib.OK:
-                return item_of(entry, room.raw[: entry.path + entry.error])
+                return item_of(entry, room[: entry.path + entry.error])
             if code != lib.ROOM:
                 raise error_of(code)
-            self._room = ctypes.create_string_buffer(entry.path + entry.error)
+            room = ctypes.create_string_buffer(entry.path + entry.error)
 
 
 def item_of(entry: lib.WalkEntry, texts: bytes) -> Item:
@@ -138,7 +137,8 @@ class Listing(NamedTuple):
 
     def steps(self) -> Iterator[None]:
         """The steps that may be taken, after which it raises LimitError."""
-        yield from repeat(None) if self.limit is None else repeat(None, self.limit)
+        times = () if self.limit is None else (min(self.limit, sys.maxsize),)
+        yield from repeat(None, *times)
         raise error_of(lib.LIMIT)
 
     def listed(self, path: str) -> Found:
@@ -147,7 +147,10 @@ class Listing(NamedTuple):
             found = list(entries)
         if self.sort:
             found.sort(key=lambda entry: os.fsencode(entry.name))
-        are_dirs = (entry.is_dir(follow_symlinks=False) for entry in found)
+        try:
+            are_dirs = [entry.is_dir(follow_symlinks=False) for entry in found]
+        except OSError:
+            are_dirs = [is_folder(entry) for entry in found]
         return Found(found, Listed.of([entry.name for entry in found], are_dirs))
 
     def decided(
@@ -158,6 +161,16 @@ class Listing(NamedTuple):
         if self.asks_sizes:
             sizes = [size_of(*it) for it in zip(found.entries, found.listed.kinds)]
         return zip(found.entries, guide.decide_all(place, found.listed, sizes))
+
+
+def is_folder(entry: "os.DirEntry[str]") -> bool:
+    """Whether an entry is a directory. One of which that can't be known, as where the system lists
+    no kinds and nothing may be asked, counts as none.
+    """
+    try:
+        return entry.is_dir(follow_symlinks=False)
+    except OSError:
+        return False
 
 
 def size_of(entry: "os.DirEntry[str]", kind: int) -> int:
@@ -171,30 +184,32 @@ def size_of(entry: "os.DirEntry[str]", kind: int) -> int:
 def entries_below(
     guide: Guide, first: Folder, how: Listing, device: Optional[int]
 ) -> Iterator["os.DirEntry[str]"]:
-    """Yields the entries below a root. A directory is left after what is in it."""
-    with guide:
-        folders, steps = [first], how.steps()
+    """Yields the entries below a root. A directory is left after what is in it.
+
+    (Nothing is closed here, since another thread may end it: the guide is freed with this.)
+    """
+    folders, steps = [first], how.steps()
+    next(steps)
+    while folders:
+        entry, code = next(folders[-1].entries, (None, 0))
         next(steps)
-        while folders:
-            entry, code = next(folders[-1].entries, (None, 0))
-            next(steps)
-            if entry is None:
-                guide.leave(folders.pop().place)
-                continue
-            if code & VERDICT == lib.IGNORE:
-                continue
-            if code & WITHIN:
-                if is_utf8(entry.name):
-                    yield entry
-                else:
-                    how.report(OSError(EILSEQ, "the name isn't UTF-8", entry.path))
-            if code & DESCENDS:
-                try:
-                    if device is not None and device != os.lstat(entry.path).st_dev:
-                        continue
-                    found = how.listed(entry.path)
-                except OSError as error:
-                    how.report(error)
+        if entry is None:
+            guide.leave(folders.pop().place)
+            continue
+        if code & VERDICT == lib.IGNORE:
+            continue
+        if code & WITHIN:
+            if is_utf8(entry.name):
+                yield entry
+            else:
+                how.report(OSError(EILSEQ, "the name isn't UTF-8", entry.path))
+        if code & DESCENDS:
+            try:
+                if device is not None and device != os.lstat(entry.path).st_dev:
                     continue
-                place = guide.enter(folders[-1].place, entry.name, found.listed)
-                folders.append(Folder(place, entry.path, how.decided(guide, place, found)))
+                found = how.listed(entry.path)
+            except OSError as error:
+                how.report(error)
+                continue
+            place = guide.enter(folders[-1].place, entry.name, found.listed)
+            folders.append(Folder(place, entry.path, how.decided(guide, place, found)))

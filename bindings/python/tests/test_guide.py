@@ -119,6 +119,26 @@ class OwnAnswers(unittest.TestCase):
             guide.leave(guide.enter(top, "other"))
             guide.leave(top)
 
+    def test_an_answer_that_is_none_ends_the_call(self):
+        given = []
+
+        def reads(wanted, path):
+            return given[0] if path.startswith("/t/sub") and given else self.reads(wanted, path)
+
+        with Builder("") as builder, Guide(builder, reads) as guide:
+            top = guide.root("/t")
+            for wrong, error in (
+                (Given(99), MisusedError), (Given(1, "x"), TypeError), (None, TypeError),
+                (Given(1, b"", 99), MisusedError), (Given(1 << 32), OverflowError),
+                (Given(0, None, 0), TypeError), (Given("1"), TypeError),
+            ):
+                given[:] = [wrong]
+                with self.assertRaises(error):
+                    guide.enter(top, "sub")
+            given.clear()
+            guide.leave(guide.enter(top, "sub"))
+            guide.leave(top)
+
     def test_files_of_rules_are_asked_for_first(self):
         self.files["/w/mine"] = b"*.mine\n"
         builder = Builder("", custom_ignore_filenames=[".mine"])

@@ -386,6 +386,7 @@ class Disk(unittest.TestCase):
                 self.assertEqual(found, wanted, limit)
         self.assertIsNotNone(wanted)
         self.assertEqual(next(walk(self.top, sort=True, limit=3)).name, "a")
+        self.assertEqual(len(list(walk(self.top, limit=(1 << 64) - 1))), 3)
         with self.assertRaises(OverflowError):
             walk(self.top, limit=-1)
 
@@ -426,6 +427,51 @@ class Disk(unittest.TestCase):
         for name in ("overrides", "types", "lines", "ignore_files"):
             with self.assertRaises(TypeError):
                 walk(self.top, **{name: "*.rs"})
+
+    def test_a_matcher_goes_on_after_an_interruption(self):
+        (self.top / "a" / "b").mkdir(parents=True)
+        (self.top / "a" / ".ignore").write_text("x\n")
+        for name in ("enter", "leave"):
+            with Matcher(self.top) as matcher:
+                matcher.match("a/b/y")
+                call = getattr(Guide, name)
+
+                def stops(*words):
+                    call(*words)
+                    raise KeyboardInterrupt
+
+                with mock.patch.object(Guide, name, stops):
+                    with self.assertRaises(KeyboardInterrupt):
+                        matcher.forget("a")
+                        matcher.match("a/b/y")
+                self.assertTrue(matcher.match("a/b/x", False).is_ignore)
+                self.assertEqual((matcher.forget("a"), matcher.forget()), (2, 1))
+
+    def test_a_file_that_becomes_a_pipe_is_not_waited_for(self):
+        regular, stat = os.stat(__file__), os.stat
+        os.mkfifo(self.top / ".ignore")
+
+        def stats(path, **how):
+            return regular if os.path.basename(path) == ".ignore" else stat(path, **how)
+
+        with mock.patch("os.stat", stats):
+            self.assertEqual([it.name for it in walk(self.top, hidden=False)], [".ignore"])
+
+    def test_an_entry_whose_kind_cannot_be_known(self):
+        entry = mock.Mock()
+        entry.name, entry.is_dir.side_effect = "a", PermissionError
+        listing = mock.MagicMock()
+        listing.__enter__.return_value = [entry]
+        with mock.patch("os.scandir", return_value=listing):
+            self.assertEqual(list(walk(self.top)), [entry])
+
+    def test_a_working_directory_that_is_gone(self):
+        (self.top / "a").write_text("")
+        with mock.patch("os.getcwd", side_effect=FileNotFoundError):
+            self.assertEqual([it.name for it in walk(self.top)], ["a"])
+            with Matcher(self.top, lines=["a"], max_filesize=9) as matcher:
+                self.assertTrue(matcher.match("a").is_ignore)
+                self.assertTrue(matcher.match("\0").is_none)
 
     def test_a_directory_is_left_after_what_is_in_it(self):
         for number in range(30):

@@ -12,11 +12,10 @@ import unittest
 from unittest import mock
 
 from ignore_proved import (
-    Builder, Guide, Matcher, MisusedError, NotUtf8Error, Rules, Tree, TreeError, TreeMatcher,
-    TreeWalk, walk,
+    Builder, Guide, Listed, Matcher, MisusedError, NotUtf8Error, Rules, Tree, TreeError,
+    TreeMatcher, TreeWalk, walk,
 )
 from ignore_proved import _library as lib
-from ignore_proved import _owner
 from ignore_proved.every import Findings
 
 
@@ -57,6 +56,33 @@ class Freed:
         self.patch.stop()
 
 
+def in_a_thread(call):
+    """Makes a call in another thread."""
+    thread = threading.Thread(target=call)
+    thread.start()
+    thread.join()
+
+
+def asked_again(name, ask):
+    """Has another question asked once, as a signal's handler may, after a call of this name."""
+    call, left = getattr(lib.library, name), [ask]
+
+    def calls(*words):
+        code = call(*words)
+        if left:
+            left.pop()()
+        return code
+
+    return mock.patch.object(lib.library, name, calls)
+
+
+class Long(bytes):
+    """Bytes that say to be more."""
+
+    def __len__(self):
+        return 1 << 40
+
+
 class Misuse(unittest.TestCase):
     def test_a_closed_object_answers_no_call(self):
         for it, call in each_kind():
@@ -77,14 +103,16 @@ class Misuse(unittest.TestCase):
 
     def test_a_close_that_is_interrupted_frees_once(self):
         with Freed("tree") as freed:
-            tree = Tree("/")
+            free = lib.library.ignore_tree_free
 
-            def stop(kind, handle):
-                getattr(lib.library, f"ignore_{kind}_free")(handle)
+            def stop(handle):
+                free(handle)
                 raise KeyboardInterrupt
 
             raised = mock.Mock()
-            with mock.patch.object(_owner, "free", stop), mock.patch("sys.unraisablehook", raised):
+            with mock.patch.object(lib.library, "ignore_tree_free", stop):
+                tree = Tree("/")
+            with mock.patch("sys.unraisablehook", raised):
                 tree.close()
             tree.close()
             del tree
@@ -167,10 +195,6 @@ class Misuse(unittest.TestCase):
                     getattr(rules, ask)(*words)
 
     def test_a_text_with_another_length(self):
-        class Long(bytes):
-            def __len__(self):
-                return 1 << 40
-
         class Text(str):
             def encode(self, *words):
                 return Long(b"b")
@@ -181,6 +205,25 @@ class Misuse(unittest.TestCase):
         for other in (bytearray(b"a"), memoryview(b"a"), None, 1):
             with self.assertRaises(TypeError):
                 rules.is_ignored(other)
+
+    def test_listings_and_sizes_with_another_length(self):
+        class More(list):
+            lengths = [1, 1 << 20]
+
+            def __len__(self):
+                return self.lengths.pop(0) if self.lengths else 1
+
+        with Builder("") as builder, Guide(builder, lambda *_: (0, Long(b"/t"), None)) as guide:
+            top = guide.root("/t")
+            self.assertEqual(len(guide.decide_all(top, Listed(Long(b"a\0"), Long(b"\1")))), 1)
+            guide.leave(guide.enter(top, "sub", Listed(Long(b".\0"), b"")))
+            many = Listed.of(["a"] * 10, [False] * 10)
+            for sizes in (More([1]), [1], []):
+                with self.assertRaises(MisusedError):
+                    guide.decide_all(top, many, sizes)
+            for wrong in (-1, 1 << 64):
+                with self.assertRaises(OverflowError):
+                    guide.decide_all(top, Listed.of(["a"], [False]), [wrong])
 
     def test_one_handle_for_two(self):
         tree, builder = Tree("/"), Builder("/")
@@ -212,16 +255,54 @@ class Misuse(unittest.TestCase):
             call()
         self.assertEqual(len(found), 14)
 
-    def test_what_another_thread_collects_is_freed_by_its_own(self):
+    def test_what_another_thread_collects_is_freed_there(self):
         with Freed("tree") as freed:
             held = [Tree("/") for _ in range(5)]
-            thread = threading.Thread(target=held.clear)
-            thread.start()
-            thread.join()
+            in_a_thread(held.clear)
             gc.collect()
-            self.assertEqual(freed.given, [])
-            with Tree("/"):
-                self.assertEqual(len(freed.given), 5)
+            self.assertEqual(len(freed.given), 5)
+            in_a_thread(lambda: held.append(Tree("/")))
+            held.clear()
+            self.assertEqual(len(freed.given), 6)
+
+    def test_a_walk_that_another_thread_ends(self):
+        with tempfile.TemporaryDirectory() as folder, Freed("guide") as freed:
+            pathlib.Path(folder, "x").write_text("")
+            entries = walk(folder)
+            next(entries)
+            in_a_thread(entries.close)
+            self.assertEqual((len(freed.given), list(entries)), (1, []))
+
+    def test_a_handle_that_was_made_is_freed_where_its_call_is_interrupted(self):
+        def stop(code):
+            raise KeyboardInterrupt
+
+        with Freed("tree") as freed, mock.patch("ignore_proved.tree.checked", stop):
+            with self.assertRaises(KeyboardInterrupt):
+                Tree("/")
+            self.assertEqual(len(freed.given), 1)
+
+    def test_rules_whose_building_was_interrupted_answer(self):
+        rules = Rules("", ["a"])
+        lib.library.ignore_rules_build(rules.handle)
+        self.assertTrue(rules.is_ignored("a"))
+
+    def test_a_question_from_inside_of_another(self):
+        rules = Rules("", ["*.o", "long"])
+        with asked_again("ignore_rules_decided", lambda: rules.match("long")):
+            self.assertEqual(rules.match("a.o").reason.pattern, "*.o")
+        with tempfile.TemporaryDirectory() as folder, Matcher(folder) as matcher:
+            with asked_again("ignore_guide_decide", lambda: matcher.match("b", False)):
+                self.assertTrue(matcher.match("a", True).should_descend)
+            with asked_again("ignore_guide_enter", lambda: matcher.match("a/b", False)):
+                self.assertTrue(matcher.match("a/b", True).should_descend)
+            self.assertEqual(matcher.forget(), 2)
+
+    def test_another_shared_object_is_not_the_library(self):
+        import _ctypes
+        ran = subprocess.run([sys.executable, "-c", "import ignore_proved"], capture_output=True,
+                             env={**os.environ, lib.VARIABLE: _ctypes.__file__}, check=False)
+        self.assertIn(b"ImportError: libignore_proved.so isn't there", ran.stderr)
 
     def test_numbers_that_do_not_fit(self):
         tree, builder = Tree("/"), Builder("/")
@@ -269,6 +350,7 @@ class Misuse(unittest.TestCase):
             "builder = Builder('/')\nheld.items = TreeWalk(builder, held.tree)\n"
             "rules = Rules('', ['a'])\nentries = walk('/')\nnext(entries, None)\n"
             "sys.modules['held'] = held\n"
+            "import ctypes\nctypes.held = Rules('', ['a']), Guide(builder)\n"
         )
         ran = subprocess.run([sys.executable, "-c", code], capture_output=True, text=True,
                              env=dict(os.environ), check=False)

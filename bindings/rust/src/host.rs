@@ -2,10 +2,10 @@
 
 use crate::library::{Given, Wanted};
 use crate::names::{of_disk, told};
-use crate::Error;
 use std::env;
-use std::fs::{self, File};
+use std::fs::{self, File, OpenOptions};
 use std::io::{self, Read};
+use std::os::unix::fs::OpenOptionsExt;
 use std::path::{Path, PathBuf};
 
 const NOT_FOUND: u32 = 0;
@@ -14,7 +14,8 @@ const OTHER: u32 = 11;
 
 /// What is known of the environment.
 pub struct Known {
-    pub current_dir: PathBuf,
+    /// None where it was removed.
+    pub current_dir: Option<PathBuf>,
     pub home: Option<PathBuf>,
     pub config_home: Option<PathBuf>,
     pub git_global: Option<PathBuf>,
@@ -23,16 +24,16 @@ pub struct Known {
 
 impl Known {
     /// That of this process.
-    pub fn of_process() -> Result<Known, Error> {
+    pub fn of_process() -> Known {
         let known = |name: &str| env::var_os(name).map(PathBuf::from);
         let filled = |name: &str| known(name).filter(|path| !path.as_os_str().is_empty());
-        Ok(Known {
-            current_dir: fs::canonicalize(env::current_dir()?)?,
+        Known {
+            current_dir: env::current_dir().and_then(fs::canonicalize).ok(),
             home: filled("HOME"),
             config_home: filled("XDG_CONFIG_HOME"),
             git_global: known("GIT_CONFIG_GLOBAL"),
             git_system: known("GIT_CONFIG_SYSTEM"),
-        })
+        }
     }
 }
 
@@ -66,7 +67,7 @@ pub fn read(wanted: Wanted, text: &[u8]) -> Given {
         Err(error) => return given(0, Vec::new(), Some(fault_of(&error))),
     };
     match (wanted, found.is_file(), found.is_dir()) {
-        (Wanted::File, true, _) => content(&path, found.len()),
+        (Wanted::File, true, _) => content(&path),
         (_, true, _) => given(1, Vec::new(), None),
         (Wanted::File, _, true) => given(2, Vec::new(), Some(IS_A_DIRECTORY)),
         (_, _, true) => given(2, Vec::new(), None),
@@ -74,11 +75,47 @@ pub fn read(wanted: Wanted, text: &[u8]) -> Given {
     }
 }
 
-/// What can be read of a file, of which the size is known that it has.
-fn content(path: &Path, size: u64) -> Given {
-    let room = usize::try_from(size).unwrap_or(0).min(1 << 20) + 1;
-    let mut bytes = Vec::with_capacity(room);
-    // (without a limit the system would be asked for the size once more)
-    let ended = File::open(path).and_then(|file| file.take(u64::MAX).read_to_end(&mut bytes));
+/// `O_NONBLOCK`.
+const AT_ONCE: i32 = if cfg!(target_os = "linux") { 0o4000 } else { 4 };
+
+/// Opens what is at a path, without waiting for anyone: another may have put a pipe there since it
+/// was looked at.
+fn opened(path: &Path) -> io::Result<File> {
+    OpenOptions::new()
+        .read(true)
+        .custom_flags(AT_ONCE)
+        .open(path)
+}
+
+/// What can be read of a file, if it is one yet.
+fn content(path: &Path) -> Given {
+    let mut bytes = Vec::new();
+    let ended = opened(path).and_then(|file| {
+        let found = file.metadata()?;
+        if !found.is_file() {
+            return Err(io::Error::from(io::ErrorKind::InvalidInput));
+        }
+        let room = usize::try_from(found.len()).unwrap_or(0).min(1 << 20) + 1;
+        bytes.reserve_exact(room);
+        // (without a limit the system would be asked for the size once more)
+        file.take(u64::MAX).read_to_end(&mut bytes)
+    });
     given(1, bytes, ended.err().map(|error| fault_of(&error)))
+}
+
+#[cfg(test)]
+mod tests {
+    use super::{content, OTHER};
+    use std::process::Command;
+    use std::{env, fs};
+
+    #[test]
+    fn what_became_a_pipe_is_not_waited_for() {
+        let pipe = env::temp_dir().join(format!("ignore_proved_pipe_{}", std::process::id()));
+        let made = Command::new("mkfifo").arg(&pipe).status();
+        assert!(made.is_ok_and(|it| it.success()));
+        let given = content(&pipe);
+        assert_eq!((given.fault, given.bytes.len()), (Some(OTHER), 0));
+        fs::remove_file(&pipe).expect("the pipe goes");
+    }
 }

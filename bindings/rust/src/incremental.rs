@@ -183,9 +183,9 @@ impl WalkBuilder {
     /// The guide of the settings, of which the environment is known.
     fn guide(&mut self) -> Result<(Guide, Known), Error> {
         done(self.failed)?;
-        let known = Known::of_process()?;
+        let known = Known::of_process();
         let texts = [
-            (Label::CurrentDir, Some(&known.current_dir)),
+            (Label::CurrentDir, known.current_dir.as_ref()),
             (Label::Home, known.home.as_ref()),
             (Label::ConfigHome, known.config_home.as_ref()),
             (Label::GitGlobal, known.git_global.as_ref()),
@@ -201,20 +201,19 @@ impl WalkBuilder {
 
     /// The matcher of the root.
     pub fn build_matcher(&mut self) -> Result<IncrementalIgnore, Error> {
-        let (mut guide, known) = self.guide()?;
-        let mut dirs = HashMap::new();
-        if self.root.is_dir() {
-            let place = guide.root(&told(&self.root), &mut read).map_err(error_of)?;
-            dirs.insert(PathBuf::new(), Kept::Entered(place));
-        }
-        let mut tree = Tree::new(&told(&known.current_dir)).map_err(error_of)?;
-        Ok(IncrementalIgnore {
+        let (guide, known) = self.guide()?;
+        // (the root is absolute, so a directory that isn't known matters to no path)
+        let cwd = known.current_dir.as_deref().unwrap_or(Path::new("/"));
+        let mut tree = Tree::new(&told(cwd)).map_err(error_of)?;
+        let mut matcher = IncrementalIgnore {
             texts: Matcher::new(&mut self.builder, &mut tree).map_err(error_of)?,
             guide,
-            dirs,
+            dirs: HashMap::new(),
             root: self.root.clone(),
             limits: self.limits,
-        })
+        };
+        matcher.root_place()?;
+        Ok(matcher)
     }
 
     /// A walk of the root.
@@ -304,10 +303,10 @@ impl IncrementalIgnore {
         if !is_dir && self.limits.min_depth.is_some_and(|least| depth < least) {
             return Ok(Stand::At(Reason::TooShallow));
         }
-        let Some(Kept::Entered(root)) = self.dirs.get(Path::new("")) else {
+        let Some(root) = self.root_place()? else {
             return Ok(Stand::At(Reason::Unruled));
         };
-        let (mut place, mut dir) = (*root, PathBuf::new());
+        let (mut place, mut dir) = (root, PathBuf::new());
         let Some(parent) = below.parent() else {
             return Ok(Stand::At(Reason::Unruled));
         };
@@ -334,6 +333,21 @@ impl IncrementalIgnore {
             self.dirs.insert(dir.clone(), Kept::Entered(place));
         }
         Ok(Stand::In(place))
+    }
+
+    /// The place of the root, which is begun where it wasn't, or was forgotten; none where it is no
+    /// directory.
+    fn root_place(&mut self) -> Result<Option<Spot>, Error> {
+        if let Some(Kept::Entered(place)) = self.dirs.get(Path::new("")) {
+            return Ok(Some(*place));
+        }
+        if !self.root.is_dir() {
+            return Ok(None);
+        }
+        let place = self.guide.root(&told(&self.root), &mut read);
+        let place = place.map_err(error_of)?;
+        self.dirs.insert(PathBuf::new(), Kept::Entered(place));
+        Ok(Some(place))
     }
 
     fn answer(
@@ -421,11 +435,7 @@ impl IncrementalIgnore {
                 done(self.guide.leave(place))?;
             }
         }
-        if below.as_os_str().is_empty() && self.root.is_dir() {
-            let place = self.guide.root(&told(&self.root), &mut read);
-            let place = place.map_err(error_of)?;
-            self.dirs.insert(below, Kept::Entered(place));
-        }
+        self.root_place()?;
         Ok(gone.len())
     }
 

@@ -58,7 +58,23 @@ impl Listing {
         self.told.clear();
         self.kinds.clear();
         (self.own, self.at) = (None, Cursor::default());
-        while self.kinds.len() < TOGETHER {
+        self.fill(TOGETHER)?;
+        Ok(!self.kinds.is_empty())
+    }
+
+    /// Whether the directory is open, since there may be more in it than was read.
+    pub fn is_open(&self) -> bool {
+        self.rest.is_some()
+    }
+
+    /// Reads on to the end, besides what was read before.
+    pub fn read_rest(&mut self) -> io::Result<()> {
+        self.fill(usize::MAX)
+    }
+
+    /// Reads on, until there are so many.
+    fn fill(&mut self, most: usize) -> io::Result<()> {
+        while self.kinds.len() < most {
             let Some(entry) = self.rest.as_mut().and_then(Iterator::next) else {
                 self.rest = None;
                 break;
@@ -74,7 +90,7 @@ impl Listing {
             let kind = kind.map_err(|error| error.raw_os_error().unwrap_or(0));
             self.push(&entry.file_name(), kind);
         }
-        Ok(!self.kinds.is_empty())
+        Ok(())
     }
 
     fn push(&mut self, name: &OsStr, kind: Result<FileType, i32>) {

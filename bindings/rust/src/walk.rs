@@ -40,6 +40,9 @@ impl DirEntry {
     }
 }
 
+/// So many directories are open at once.
+const OPEN_AT_ONCE: usize = 8;
+
 /// A directory that was entered, with what becomes of its entries.
 struct Folder {
     place: Spot,
@@ -77,7 +80,7 @@ impl Walk {
 
     /// Lists a directory, and enters it.
     fn enter(&mut self, path: PathBuf) -> Result<(), Error> {
-        let listing = match Listing::read(&path) {
+        let listing = match self.listing(&path) {
             Ok(listing) => listing,
             Err(error) => return Err(Error::Io(error).at(path)),
         };
@@ -95,6 +98,16 @@ impl Walk {
             codes: Vec::new(),
         });
         self.decide()
+    }
+
+    /// Lists a directory: whole, where many are open that are read as the walk goes.
+    fn listing(&self, path: &Path) -> io::Result<Listing> {
+        let mut listing = Listing::read(path)?;
+        let is_open = |folder: &&Folder| folder.listing.is_open();
+        if listing.is_open() && self.folders.iter().filter(is_open).count() >= OPEN_AT_ONCE {
+            listing.read_rest()?;
+        }
+        Ok(listing)
     }
 
     /// Decides on what was read last of the last directory.
