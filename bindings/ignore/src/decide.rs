@@ -8,7 +8,7 @@
 use crate::error::Errors;
 use crate::excludes::Known;
 use crate::library::{self, Builder, Found, Given, Label, Problem, Spot, Switch, Tree};
-use crate::library::{Verdict, Wanted, What};
+use crate::library::{Verdict, Wanted, What, MOST_PROBLEMS};
 use crate::names::{of_disk, told};
 use crate::overrides::Override;
 use crate::reader::{error_of, nothing, read};
@@ -294,40 +294,40 @@ impl Guide {
             given
         });
         let answers = Arc::new(answers);
-        let mut all = self.guide.problems();
+        let all = self.guide.problems();
         let own = match all.is_empty() {
-            true => 0,
-            false => self.count_own(&text, &answers),
+            true => Vec::new(),
+            false => self.own_problems(&text, &answers),
         };
-        let own = all.split_off(all.len().saturating_sub(own));
+        let mut above = without(all, &own);
         self.plan.first.get_or_init(|| answers.clone());
         let told = self.plan.told_above.lock();
         let mut told = told.unwrap_or_else(PoisonError::into_inner);
-        all.retain(|it| !it.path.as_ref().is_some_and(|path| told.contains(path)));
-        told.extend(all.iter().filter_map(|it| it.path.clone()));
+        above.retain(|it| !it.path.as_ref().is_some_and(|path| told.contains(path)));
+        told.extend(above.iter().filter_map(|it| it.path.clone()));
         drop(told);
         Begun {
             place: Place {
                 spot,
                 answers: Some(answers),
             },
-            above: joined(all),
+            above: joined(above),
             own: joined(own),
         }
     }
 
-    /// How many problems are of a root's own files: those that it has where nothing is known of what
-    /// is above it.
-    fn count_own(&mut self, root: &[u8], answers: &Answers) -> usize {
+    /// The problems of a root's own files: those that it has where nothing is known of what is above
+    /// it.
+    fn own_problems(&mut self, root: &[u8], answers: &Answers) -> Vec<Problem> {
         let spot = self.guide.root(root, &mut |wanted, path| match wanted {
             Wanted::Canonical => nothing(),
             _ => answers
                 .find(wanted, path)
                 .unwrap_or_else(|| read(wanted, path)),
         });
-        let count = self.guide.problems().len();
+        let own = self.guide.problems();
         self.guide.leave(spot);
-        count
+        own
     }
 
     /// Begins a root by what another thread was told.
@@ -428,6 +428,16 @@ impl Guide {
     pub(crate) fn leave(&mut self, place: &Place) {
         self.guide.leave(place.spot)
     }
+}
+
+/// The problems without those of a root's own files, which come last; where there are too many to
+/// tell them all, without all of these files.
+fn without(mut all: Vec<Problem>, own: &[Problem]) -> Vec<Problem> {
+    match all.len() > MOST_PROBLEMS {
+        false => all.truncate(all.len().saturating_sub(own.len())),
+        true => all.retain(|it| own.iter().all(|other| other.path != it.path)),
+    }
+    all
 }
 
 /// Problems as one error.

@@ -33,7 +33,7 @@ macro_rules! owner {
 
 mod guide;
 
-pub use guide::{Fault, Given, Guide, Kind, Problem, Spot, Wanted, What};
+pub use guide::{Fault, Given, Guide, Kind, Problem, Spot, Wanted, What, MOST_PROBLEMS};
 
 const OK: u32 = 0;
 const NONE: u32 = 1;

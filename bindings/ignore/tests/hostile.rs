@@ -43,6 +43,27 @@ fn rules_of_a_pipe_are_read_once_and_count() {
 }
 
 #[test]
+fn of_many_invalid_lines_the_first_hundred_are_told_and_that_there_are_more() {
+    let room = Room::new();
+    let lines = "{\n".repeat(20_000);
+    room.put(".ignore", &lines).put("top/.ignore", &lines);
+    room.put("top/sub/.ignore", &lines).put("top/sub/x", "");
+    let items: Vec<_> = WalkBuilder::new(room.path().join("top")).build().collect();
+    let told = |name: &str| {
+        let errors = items.iter().filter_map(|it| match it {
+            Ok(entry) => entry.error().map(ToString::to_string),
+            Err(error) => Some(error.to_string()),
+        });
+        let path = room.path().join(name).to_string_lossy().into_owned();
+        let all: Vec<_> = errors.filter(|it| it.contains(&path)).collect();
+        (all.len(), all.concat().lines().count())
+    };
+    for name in [".ignore", "top/.ignore", "top/sub/.ignore"] {
+        assert_eq!(told(name), (1, 101), "{name}");
+    }
+}
+
+#[test]
 fn after_a_panic_of_the_order_a_walk_goes_on_behind_the_directory() {
     let room = Room::new();
     room.put("a/b/x", "").put("a/b/y", "").put("c", "");

@@ -130,11 +130,13 @@ class Guide(Owner):
         """Leaves a directory, after those below it."""
         self._call("leave", byref(place))
 
-    def problems(self) -> Sequence[Problem]:
-        """What is wrong with the files of rules of the directory that was entered last."""
+    def problems(self, most: int = 100) -> Sequence[Problem]:
+        """What is wrong with the files of rules of the directory that was entered last: of more than
+        `most` problems the first ones. Each is looked for from the first one on, so that the time
+        of many grows with the square of their number."""
         found: List[Problem] = []
         room = ctypes.create_string_buffer(512)
-        while True:
+        while len(found) < most:
             parts = lib.ProblemParts()
             code = lib.library.ignore_guide_problem(
                 self.handle, len(found), byref(parts), room, len(room)
@@ -147,6 +149,7 @@ class Guide(Owner):
                 room = ctypes.create_string_buffer(whole)
                 continue
             found.append(problem_of(parts, room.raw[:whole]))
+        return found
 
     def _come(self, call: Any, *words: object) -> lib.Place:
         """The place that a call answers, once it is given what it wants to know."""

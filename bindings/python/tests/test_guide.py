@@ -56,6 +56,15 @@ class OwnAnswers(unittest.TestCase):
             for place in (unknown, empty, inside, top):
                 guide.leave(place)
 
+    def test_of_many_problems_the_first_are_told(self):
+        self.files["/t/.ignore"] = b"{\n" * 1000
+        with self.guide() as guide:
+            guide.leave(guide.root("/t"))
+            self.assertEqual([it.line for it in guide.problems()], list(range(1, 101)))
+            self.assertEqual([it.line for it in guide.problems(2)], [1, 2])
+            self.assertEqual(len(guide.problems(2000)), 1000)
+            self.assertEqual(guide.problems(0), [])
+
     def test_sizes_and_depths(self):
         with self.guide(max_filesize=3, max_depth=1) as guide:
             top = guide.root("/t")

@@ -93,6 +93,9 @@ pub enum What {
     Other,
 }
 
+/// The most problems of a directory that are told: each is looked for from the first one on.
+pub const MOST_PROBLEMS: usize = 100;
+
 /// A part of what is wrong with files of rules.
 #[derive(Clone, Debug, PartialEq, Eq)]
 pub struct Problem {
@@ -237,7 +240,8 @@ impl Guide {
         done(unsafe { ignore_guide_leave(&mut self.0, &place) })
     }
 
-    /// What is wrong with the files of rules of the directory that was entered last.
+    /// What is wrong with the files of rules of the directory that was entered last: of more than
+    /// `MOST_PROBLEMS` the first, and one that says that there are more.
     pub fn problems(&mut self) -> Vec<Problem> {
         let (mut all, mut room) = (Vec::new(), Vec::new());
         loop {
@@ -252,7 +256,17 @@ impl Guide {
                 room.resize(whole, 0);
                 continue;
             }
-            all.push(problem_of(&parts, &room));
+            let problem = problem_of(&parts, &room);
+            if all.len() == MOST_PROBLEMS {
+                all.push(Problem {
+                    what: What::Other,
+                    line: 0,
+                    text: "more is wrong, and isn't told".to_string(),
+                    ..problem
+                });
+                return all;
+            }
+            all.push(problem);
         }
     }
 }
